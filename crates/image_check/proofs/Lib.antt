@@ -3,7 +3,6 @@ pub mod Acceptances
 pub mod Begun
 pub mod CauseLaws
 pub mod FileLimits
-pub mod Given
 pub mod Laid
 pub mod Layouts
 pub mod Lookups
@@ -11,6 +10,7 @@ pub mod Offsets
 pub mod Passed
 pub mod Refused
 pub mod Room
+pub mod Left
 pub mod SiteSteps
 pub mod Starts
 pub mod SweepLaws

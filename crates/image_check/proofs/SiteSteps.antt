@@ -1,27 +1,23 @@
 -- Going through the instructions of a text, and through two lists of sites, one after the other.
-use Rattle.std.proofs.Common.{◌≡◌, ℕ, zero, suc, ◌+◌, ◌-◌, ◌<◌, ◌≤◌, true, false, ◌&&◌, List, [], ◌∷◌, ◌++◌, length, take, drop, Some, None, min, refl, sym, ap, ◌∙◌, append_assoc, add-one, drop-cons, cond, arith}
+use Rattle.std.proofs.Common.{◌≡◌, ℕ, zero, suc, ◌+◌, ◌-◌, ◌<◌, ◌≤◌, Bool, true, false, ◌&&◌, List, [], ◌∷◌, ◌++◌, length, drop, Some, None, min, refl, sym, ap, ◌∙◌, append_assoc, add-one, drop-cons, cond, arith}
 use Rattle.std.specs.Prelude.{slice_index_or}
-use Rattle.std.proofs.lemmas.List.{append-nil, drop_all, length-drop, take_all}
+use Rattle.std.proofs.lemmas.List.{append-nil, drop_all}
 use Rattle.sites.specs.declared.site.Site.{Site}
 use Rattle.ia32_types.specs.declared.site.SiteKind.TheVariants.{Cli}
-use Rattle.image_check.specs.declared.piece.Role.TheVariants.{Plain}
 use Rattle.image_check.specs.declared.piece.Piece.{Piece}
 use Rattle.image_check.specs.declared.site.Here.{Here}
 use Rattle.image_check.specs.declared.site.Here.TheVariants as here
-use Rattle.image_check.specs.TextSites.{is_nop_role, has_nops, begun_by, Found, found_by, found_behind, found_in, is_same, differ}
+use Rattle.image_check.specs.Pieces.{all_pieces}
+use Rattle.image_check.specs.Stops.{piece_there, AreLeft}
+use Rattle.image_check.specs.TextSites.{is_nop_role, is_hlt, has_nops, has_hlt, begun_by, Found, found_by, found_behind, found_in, is_same, differ}
+use Rattle.image_check.proofs.Left.{Next, next_is, none_left}
 
 -- what indexing gives past the end
-abbrev pub no_piece : Piece
-no_piece = record { at = 0; len = 0; role = Plain }
-
 abbrev pub no_site : Site
 no_site = record { at = 0; kind = Cli; len = 0; total = 0 }
 
 pub next_of : {X : Type 0} (xs : List X) (i : ℕ) (d : X) → i < length xs → drop i xs ≡ slice_index_or xs i d ∷ drop (i + 1) xs
 next_of xs i d lt = rw (add-one, drop-cons xs i d) refl
-
-pub all_behind : {X : Type 0} (xs : List X) (i : ℕ) → take (length xs - i) (drop i xs) ≡ drop i xs
-all_behind xs i = take_all _ _ (omega (arith, length-drop i xs))
 
 -- ---- NOPs
 
@@ -29,34 +25,68 @@ nops_first : (n : ℕ) (p : Piece) (ps : List Piece) → has_nops (suc n) (p ∷
 unfolding has_nops
 nops_first n p ps = refl
 
-pub nops-step : (count i : ℕ) (ps : List Piece) (d : Piece) → i < count → i < length ps → has_nops (count - i) (drop i ps) ≡ (is_nop_role (slice_index_or ps i d).role && has_nops (count - (i + 1)) (drop (i + 1) ps))
-nops-step count i ps d lt in_ps =
-    let k : count - i ≡ suc (count - (i + 1)) = omega arith in
-    ap (λ n. has_nops n (drop i ps)) k ∙ ap (has_nops (suc (count - (i + 1)))) (next_of ps i d in_ps) ∙ nops_first (count - (i + 1)) (slice_index_or ps i d) (drop (i + 1) ps)
-
-pub nops-wrong : (count i : ℕ) (ps : List Piece) (d : Piece) → i < count → i < length ps → is_nop_role (slice_index_or ps i d).role ≡ false → has_nops (count - i) (drop i ps) ≡ false
-nops-wrong count i ps d lt in_ps e = nops-step count i ps d lt in_ps ∙ ap (λ b. b && has_nops (count - (i + 1)) (drop (i + 1) ps)) e
-
-pub nops-right : (count i : ℕ) (ps : List Piece) (d : Piece) → i < count → i < length ps → is_nop_role (slice_index_or ps i d).role ≡ true → has_nops (count - i) (drop i ps) ≡ has_nops (count - (i + 1)) (drop (i + 1) ps)
-nops-right count i ps d lt in_ps e = nops-step count i ps d lt in_ps ∙ ap (λ b. b && has_nops (count - (i + 1)) (drop (i + 1) ps)) e
-
 nops_none : (n : ℕ) → has_nops (suc n) [] ≡ false
 unfolding has_nops
 nops_none n = refl
-
-pub nops-short : (count i : ℕ) (ps : List Piece) → i < count → length ps ≤ i → has_nops (count - i) (drop i ps) ≡ false
-nops-short count i ps lt le =
-    let k : count - i ≡ suc (count - (i + 1)) = omega arith in
-    ap (λ n. has_nops n (drop i ps)) k ∙ ap (has_nops (suc (count - (i + 1)))) (drop_all i ps le) ∙ nops_none (count - (i + 1))
 
 pub nops_zero : (ps : List Piece) → has_nops 0 ps ≡ true
 unfolding has_nops
 nops_zero ps = refl
 
-pub nops-end : (count i : ℕ) (ps : List Piece) → count ≤ i → has_nops (count - i) (drop i ps) ≡ true
-nops-end count i ps le =
-    let k : count - i ≡ 0 = omega arith in
-    ap (λ n. has_nops n (drop i ps)) k ∙ nops_zero (drop i ps)
+-- So many NOPs were found, of those that come first of some instructions.
+pub record Counted (count i : ℕ) (text : List ℕ) (at : ℕ) (ps : List Piece) : Type 0 where
+  pub rest : List Piece
+  pub left : AreLeft text at rest
+  pub same : has_nops (count - i) rest ≡ has_nops count ps
+
+pub counted_first : (count : ℕ) (text : List ℕ) (at : ℕ) (ps : List Piece) → AreLeft text at ps → Counted count 0 text at ps
+counted_first count text at ps left =
+    let k : count - 0 ≡ count = omega arith in
+    record { rest = ps; left = left; same = ap (λ n. has_nops n ps) k }
+
+module _ (count i : ℕ) (text : List ℕ) (at : ℕ) (ps : List Piece) (now : Counted count i text at ps) where
+  first_is : i < count → (p : Piece) (there : piece_there text at ≡ Some p) → has_nops count ps ≡ (is_nop_role p.role && has_nops (count - (i + 1)) (next_is text at now.rest p now.left there).more)
+  first_is lt p there =
+      let k : count - i ≡ suc (count - (i + 1)) = omega arith in
+      let next = next_is text at now.rest p now.left there in
+      sym now.same ∙ ap (λ n. has_nops n now.rest) k ∙ ap (has_nops (suc (count - (i + 1)))) next.is ∙ nops_first (count - (i + 1)) p next.more
+
+  pub counted_wrong : i < count → (p : Piece) → piece_there text at ≡ Some p → is_nop_role p.role ≡ false → false ≡ has_nops count ps
+  counted_wrong lt p there e = sym (first_is lt p there ∙ ap (λ b. b && has_nops (count - (i + 1)) (next_is text at now.rest p now.left there).more) e)
+
+  pub counted_short : i < count → piece_there text at ≡ None → false ≡ has_nops count ps
+  counted_short lt none =
+      let k : count - i ≡ suc (count - (i + 1)) = omega arith in
+      sym (sym now.same ∙ ap (λ n. has_nops n now.rest) k ∙ ap (has_nops (suc (count - (i + 1)))) (none_left text at now.rest now.left none) ∙ nops_none (count - (i + 1)))
+
+  pub counted_on : i < count → (p : Piece) → piece_there text at ≡ Some p → is_nop_role p.role ≡ true → Counted count (i + 1) text (at + p.len) ps
+  counted_on lt p there e =
+      let next = next_is text at now.rest p now.left there in
+      record {
+        rest = next.more;
+        left = next.left;
+        same = sym (first_is lt p there ∙ ap (λ b. b && has_nops (count - (i + 1)) next.more) e);
+      }
+
+  pub counted_all : count ≤ i → true ≡ has_nops count ps
+  counted_all le =
+      let k : count - i ≡ 0 = omega arith in
+      sym (sym now.same ∙ ap (λ n. has_nops n now.rest) k ∙ nops_zero now.rest)
+
+-- ---- what an instruction begins
+
+pub no_hlt : (text : List ℕ) (at : ℕ) (ps : List Piece) → AreLeft text at ps → piece_there text at ≡ None → false ≡ has_hlt ps
+no_hlt text at ps left none = sym (ap has_hlt (none_left text at ps left none))
+
+pub other_first : (text : List ℕ) (at : ℕ) (ps : List Piece) (p : Piece) → AreLeft text at ps → piece_there text at ≡ Some p → is_hlt p.role ≡ false → false ≡ has_hlt ps
+other_first text at ps p left there e =
+    let next = next_is text at ps p left there in
+    sym (ap has_hlt next.is ∙ ap (λ b. b && has_nops 3 next.more) e)
+
+pub hlt_first : (text : List ℕ) (at : ℕ) (ps : List Piece) (p : Piece) (b : Bool) → AreLeft text at ps → piece_there text at ≡ Some p → is_hlt p.role ≡ true → ((more : List Piece) → AreLeft text (at + p.len) more → b ≡ has_nops 3 more) → b ≡ has_hlt ps
+hlt_first text at ps p b left there e nops =
+    let next = next_is text at ps p left there in
+    nops next.more next.left ∙ sym (ap has_hlt next.is ∙ ap (λ c. c && has_nops 3 next.more) e)
 
 -- ---- sites
 
@@ -64,74 +94,76 @@ skip_first : (n : ℕ) (p : Piece) (ps : List Piece) → found_behind (suc n) (p
 unfolding found_behind
 skip_first n p ps = refl
 
-found-skip : (skipped i : ℕ) (ps : List Piece) (d : Piece) → 0 < skipped → i < length ps → found_behind skipped (drop i ps) ≡ found_behind (skipped - 1) (drop (i + 1) ps)
-found-skip skipped i ps d lt in_ps =
-    let k : skipped ≡ suc (skipped - 1) = omega arith in
-    ap (λ n. found_behind n (drop i ps)) k ∙ ap (found_behind (suc (skipped - 1))) (next_of ps i d in_ps) ∙ skip_first (skipped - 1) (slice_index_or ps i d) (drop (i + 1) ps)
-
 pub look_at : (p : Piece) (ps : List Piece) → found_behind 0 (p ∷ ps) ≡ found_by p (λ n. found_behind n ps) (begun_by p ps)
 unfolding found_behind
 look_at p ps = refl
-
-found-step : (skipped i : ℕ) (ps : List Piece) (d : Piece) (h : Here) → skipped ≤ 0 → i < length ps → begun_by (slice_index_or ps i d) (drop (i + 1) ps) ≡ h → found_behind skipped (drop i ps) ≡ found_by (slice_index_or ps i d) (λ n. found_behind n (drop (i + 1) ps)) h
-found-step skipped i ps d h none in_ps e =
-    let k : skipped ≡ 0 = omega arith in
-    ap (λ n. found_behind n (drop i ps)) k ∙ ap (found_behind 0) (next_of ps i d in_ps) ∙ look_at (slice_index_or ps i d) (drop (i + 1) ps) ∙ ap (found_by (slice_index_or ps i d) (λ n. found_behind n (drop (i + 1) ps))) e
 
 found_none : (n : ℕ) → found_behind n [] ≡ record { sites = []; lacking = None }
 unfolding found_behind
 found_none zero = refl
 found_none (suc n) = refl
 
-found-end : (skipped i : ℕ) (ps : List Piece) → length ps ≤ i → found_behind skipped (drop i ps) ≡ record { sites = []; lacking = None }
-found-end skipped i ps le = ap (found_behind skipped) (drop_all i ps le) ∙ found_none skipped
-
 -- So far these sites were found, and so many of the next instructions belong to the last of them.
-pub record Now (sites : List Site) (skipped i : ℕ) (ps : List Piece) : Type 0 where
-  pub sites_are : sites ++ (found_behind skipped (drop i ps)).sites ≡ (found_in ps).sites
-  pub lacking_is : (found_behind skipped (drop i ps)).lacking ≡ (found_in ps).lacking
+pub record Now (sites : List Site) (skipped : ℕ) (text : List ℕ) (at : ℕ) : Type 0 where
+  pub rest : List Piece
+  pub left : AreLeft text at rest
+  pub sites_are : sites ++ (found_behind skipped rest).sites ≡ (found_in (all_pieces text)).sites
+  pub lacking_is : (found_behind skipped rest).lacking ≡ (found_in (all_pieces text)).lacking
 
-pub now_first : (ps : List Piece) → Now [] 0 0 ps
-now_first ps = record { sites_are = refl; lacking_is = refl }
+pub now_first : (text : List ℕ) → AreLeft text 0 (all_pieces text) → Now [] 0 text 0
+now_first text left = record { rest = all_pieces text; left = left; sites_are = refl; lacking_is = refl }
 
-pub now_skipped : (sites : List Site) (skipped i : ℕ) (ps : List Piece) → 0 < skipped → i < length ps → Now sites skipped i ps → Now sites (skipped - 1) (i + 1) ps
-now_skipped sites skipped i ps lt in_ps now =
-    let step = found-skip skipped i ps no_piece lt in_ps in
-    record {
-      sites_are = ap (λ (f : Found). sites ++ f.sites) (sym step) ∙ now.sites_are;
-      lacking_is = ap (λ (f : Found). f.lacking) (sym step) ∙ now.lacking_is;
-    }
+module _ (sites : List Site) (skipped : ℕ) (text : List ℕ) (at : ℕ) (now : Now sites skipped text at) where
+  -- what is found by the rest, where that is known
+  sites_by : (found : Found) → found_behind skipped now.rest ≡ found → sites ++ found.sites ≡ (found_in (all_pieces text)).sites
+  sites_by found e = ap (λ (f : Found). sites ++ f.sites) (sym e) ∙ now.sites_are
 
-there : (skipped i : ℕ) (ps : List Piece) (h : Here) → skipped ≤ 0 → i < length ps → begun_by (slice_index_or ps i no_piece) (take (length ps - (i + 1)) (drop (i + 1) ps)) ≡ h → found_behind skipped (drop i ps) ≡ found_by (slice_index_or ps i no_piece) (λ n. found_behind n (drop (i + 1) ps)) h
-there skipped i ps h none in_ps e = found-step skipped i ps no_piece h none in_ps (ap (begun_by (slice_index_or ps i no_piece)) (sym (all_behind ps (i + 1))) ∙ e)
+  lacking_by : (found : Found) → found_behind skipped now.rest ≡ found → found.lacking ≡ (found_in (all_pieces text)).lacking
+  lacking_by found e = ap (λ (f : Found). f.lacking) (sym e) ∙ now.lacking_is
 
-pub now_nothing : (sites : List Site) (skipped i : ℕ) (ps : List Piece) → skipped ≤ 0 → i < length ps → begun_by (slice_index_or ps i no_piece) (take (length ps - (i + 1)) (drop (i + 1) ps)) ≡ here.Nothing → Now sites skipped i ps → Now sites skipped (i + 1) ps
-now_nothing sites skipped i ps none in_ps e now =
-    let k : 0 ≡ skipped = omega arith in
-    let step = there skipped i ps here.Nothing none in_ps e ∙ ap (λ n. found_behind n (drop (i + 1) ps)) k in
-    record {
-      sites_are = ap (λ (f : Found). sites ++ f.sites) (sym step) ∙ now.sites_are;
-      lacking_is = ap (λ (f : Found). f.lacking) (sym step) ∙ now.lacking_is;
-    }
+  pub now_all : piece_there text at ≡ None → (sites ≡ (found_in (all_pieces text)).sites) × (None ≡ (found_in (all_pieces text)).lacking)
+  now_all none =
+      let e = ap (found_behind skipped) (none_left text at now.rest now.left none) ∙ found_none skipped in
+      (sym (append-nil sites) ∙ sites_by _ e, lacking_by _ e)
 
-pub now_makes : (sites : List Site) (skipped i : ℕ) (ps : List Piece) (s : Site) → skipped ≤ 0 → i < length ps → begun_by (slice_index_or ps i no_piece) (take (length ps - (i + 1)) (drop (i + 1) ps)) ≡ here.Makes s → Now sites skipped i ps → Now (sites ++ s ∷ []) (s.total - (slice_index_or ps i no_piece).len) (i + 1) ps
-now_makes sites skipped i ps s none in_ps e now =
-    let step = there skipped i ps (here.Makes s) none in_ps e in
-    let more = found_behind (s.total - (slice_index_or ps i no_piece).len) (drop (i + 1) ps) in
-    record {
-      sites_are = append_assoc sites (s ∷ []) more.sites ∙ ap (λ (f : Found). sites ++ f.sites) (sym step) ∙ now.sites_are;
-      lacking_is = ap (λ (f : Found). f.lacking) (sym step) ∙ now.lacking_is;
-    }
+  module _ (p : Piece) (there : piece_there text at ≡ Some p) where
+    next : Next text at now.rest p
+    next = next_is text at now.rest p now.left there
 
-pub now_lacks : (sites : List Site) (skipped i : ℕ) (ps : List Piece) → skipped ≤ 0 → i < length ps → begun_by (slice_index_or ps i no_piece) (take (length ps - (i + 1)) (drop (i + 1) ps)) ≡ here.Lacks → Now sites skipped i ps → (sites ≡ (found_in ps).sites) × (Some (slice_index_or ps i no_piece).at ≡ (found_in ps).lacking)
-now_lacks sites skipped i ps none in_ps e now =
-    let step = there skipped i ps here.Lacks none in_ps e in
-    (sym (append-nil sites) ∙ ap (λ (f : Found). sites ++ f.sites) (sym step) ∙ now.sites_are, ap (λ (f : Found). f.lacking) (sym step) ∙ now.lacking_is)
+    pub now_skipped : 0 < skipped → Now sites (skipped - 1) text (at + p.len)
+    now_skipped lt =
+        let k : skipped ≡ suc (skipped - 1) = omega arith in
+        let e : found_behind skipped now.rest ≡ found_behind (skipped - 1) next.more = ap (λ n. found_behind n now.rest) k ∙ ap (found_behind (suc (skipped - 1))) next.is ∙ skip_first (skipped - 1) p next.more in
+        record { rest = next.more; left = next.left; sites_are = sites_by _ e; lacking_is = lacking_by _ e }
 
-pub now_all : (sites : List Site) (skipped i : ℕ) (ps : List Piece) → length ps ≤ i → Now sites skipped i ps → (sites ≡ (found_in ps).sites) × (None ≡ (found_in ps).lacking)
-now_all sites skipped i ps le now =
-    let step = found-end skipped i ps le in
-    (sym (append-nil sites) ∙ ap (λ (f : Found). sites ++ f.sites) (sym step) ∙ now.sites_are, ap (λ (f : Found). f.lacking) (sym step) ∙ now.lacking_is)
+    begins : (h : Here) → skipped ≤ 0 → ((ps : List Piece) → AreLeft text (at + p.len) ps → h ≡ begun_by p ps) → found_behind skipped now.rest ≡ found_by p (λ n. found_behind n next.more) h
+    begins h none begun =
+        let k : skipped ≡ 0 = omega arith in
+        ap (λ n. found_behind n now.rest) k
+        ∙ ap (found_behind 0) next.is
+        ∙ look_at p next.more
+        ∙ ap (found_by p (λ n. found_behind n next.more)) (sym (begun next.more next.left))
+
+    pub now_nothing : skipped ≤ 0 → ((ps : List Piece) → AreLeft text (at + p.len) ps → here.Nothing ≡ begun_by p ps) → Now sites skipped text (at + p.len)
+    now_nothing none begun =
+        let k : 0 ≡ skipped = omega arith in
+        let e = begins here.Nothing none begun ∙ ap (λ n. found_behind n next.more) k in
+        record { rest = next.more; left = next.left; sites_are = sites_by _ e; lacking_is = lacking_by _ e }
+
+    pub now_makes : (s : Site) → skipped ≤ 0 → ((ps : List Piece) → AreLeft text (at + p.len) ps → here.Makes s ≡ begun_by p ps) → Now (sites ++ s ∷ []) (s.total - p.len) text (at + p.len)
+    now_makes s none begun =
+        let e = begins (here.Makes s) none begun in
+        record {
+          rest = next.more;
+          left = next.left;
+          sites_are = append_assoc sites (s ∷ []) (found_behind (s.total - p.len) next.more).sites ∙ sites_by _ e;
+          lacking_is = lacking_by _ e;
+        }
+
+    pub now_lacks : skipped ≤ 0 → ((ps : List Piece) → AreLeft text (at + p.len) ps → here.Lacks ≡ begun_by p ps) → (sites ≡ (found_in (all_pieces text)).sites) × (Some p.at ≡ (found_in (all_pieces text)).lacking)
+    now_lacks none begun =
+        let e = begins here.Lacks none begun in
+        (sym (append-nil sites) ∙ sites_by _ e, lacking_by _ e)
 
 -- ---- two lists of sites
 

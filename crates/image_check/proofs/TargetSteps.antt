@@ -1,15 +1,16 @@
 -- Going through the instructions of a text, and clearing flags.
-use Rattle.std.proofs.Common.{◌≡◌, ℕ, ◌+◌, ◌<◌, ◌≤◌, Bool, true, false, not, ◌&&◌, List, [], ◌∷◌, length, drop, nat_lt, min, Some, None, cond, refl, sym, ap, ◌∙◌, inl, inr, arith}
+use Rattle.std.proofs.Common.{◌≡◌, ℕ, ◌+◌, ◌<◌, ◌≤◌, Bool, true, false, not, ◌&&◌, List, [], ◌∷◌, length, nat_lt, min, Some, None, cond, refl, sym, ap, ◌∙◌, inl, inr, arith}
 use Rattle.std.specs.Prelude.{slice_index_or}
 use Rattle.std.proofs.lemmas.Bool.{cases_lt}
 use Rattle.std.proofs.lemmas.Bool.Decides.{nat_tests}
 use Rattle.std.proofs.lemmas.Grind.{common_steps}
-use Rattle.std.proofs.lemmas.List.{drop_all}
 use Rattle.image_check.specs.declared.piece.Role.{Role}
 use Rattle.image_check.specs.declared.piece.Role.TheVariants as role
 use Rattle.image_check.specs.declared.piece.Piece.{Piece}
 use Rattle.image_check.specs.Targets.{leads_wrong, wrong_target}
-use Rattle.image_check.proofs.SiteSteps.{no_piece, next_of}
+use Rattle.image_check.specs.Pieces.{all_pieces}
+use Rattle.image_check.specs.Stops.{piece_there, AreLeft}
+use Rattle.image_check.proofs.Left.{Next, next_is, none_left}
 
 below_both : (before len i k : ℕ) → min before len ≡ i → k < len → nat_lt k i ≡ nat_lt k before
 below_both before len i k e lt = grind (arith, nat_tests)
@@ -24,26 +25,43 @@ cleared old behind before i k e =
       | inr le ↦ ap (λ b. b && not (nat_lt behind k && nat_lt k i)) (past old k le) ∙ sym (ap (λ b. b && not (nat_lt behind k && nat_lt k before)) (past old k le))
     ]
 
-module _ (entrance : ℕ → Bool) (ps : List Piece) (i : ℕ) where
-  first_is : (p : Piece) (rest : List Piece) → wrong_target entrance (p ∷ rest) ≡ cond (leads_wrong entrance p.role) (Some p.at) (wrong_target entrance rest)
-  unfolding wrong_target
-  first_is p rest = refl
+first_is : (entrance : ℕ → Bool) (p : Piece) (rest : List Piece) → wrong_target entrance (p ∷ rest) ≡ cond (leads_wrong entrance p.role) (Some p.at) (wrong_target entrance rest)
+unfolding wrong_target
+first_is entrance p rest = refl
 
-  step : i < length ps → wrong_target entrance (drop i ps) ≡ cond (leads_wrong entrance (slice_index_or ps i no_piece).role) (Some (slice_index_or ps i no_piece).at) (wrong_target entrance (drop (i + 1) ps))
-  step lt = ap (wrong_target entrance) (next_of ps i no_piece lt) ∙ first_is (slice_index_or ps i no_piece) (drop (i + 1) ps)
+none_is : (entrance : ℕ → Bool) → wrong_target entrance [] ≡ None
+unfolding wrong_target
+none_is entrance = refl
 
-  pub wrong_here : i < length ps → leads_wrong entrance (slice_index_or ps i no_piece).role ≡ true → wrong_target entrance (drop i ps) ≡ Some (slice_index_or ps i no_piece).at
-  wrong_here lt e = step lt ∙ ap (λ b. cond b (Some (slice_index_or ps i no_piece).at) (wrong_target entrance (drop (i + 1) ps))) e
+-- Up to an offset no branch leads elsewhere.
+pub record Sought (entrance : ℕ → Bool) (text : List ℕ) (at : ℕ) : Type 0 where
+  pub rest : List Piece
+  pub left : AreLeft text at rest
+  pub same : wrong_target entrance rest ≡ wrong_target entrance (all_pieces text)
 
-  pub right_here : i < length ps → leads_wrong entrance (slice_index_or ps i no_piece).role ≡ false → wrong_target entrance (drop i ps) ≡ wrong_target entrance (drop (i + 1) ps)
-  right_here lt e = step lt ∙ ap (λ b. cond b (Some (slice_index_or ps i no_piece).at) (wrong_target entrance (drop (i + 1) ps))) e
+pub sought_first : (entrance : ℕ → Bool) (text : List ℕ) → AreLeft text 0 (all_pieces text) → Sought entrance text 0
+sought_first entrance text left = record { rest = all_pieces text; left = left; same = refl }
 
-  none_is : wrong_target entrance [] ≡ None
-  unfolding wrong_target
-  none_is = refl
+module _ (entrance : ℕ → Bool) (text : List ℕ) (at : ℕ) (sought : Sought entrance text at) where
+  pub sought_none : piece_there text at ≡ None → None ≡ wrong_target entrance (all_pieces text)
+  sought_none none = sym (none_is entrance) ∙ sym (ap (wrong_target entrance) (none_left text at sought.rest sought.left none)) ∙ sought.same
 
-  pub right_all : length ps ≤ i → wrong_target entrance (drop i ps) ≡ None
-  right_all le = ap (wrong_target entrance) (drop_all i ps le) ∙ none_is
+  module _ (p : Piece) (there : piece_there text at ≡ Some p) where
+    next : Next text at sought.rest p
+    next = next_is text at sought.rest p sought.left there
+
+    step : cond (leads_wrong entrance p.role) (Some p.at) (wrong_target entrance next.more) ≡ wrong_target entrance (all_pieces text)
+    step = sym (first_is entrance p next.more) ∙ sym (ap (wrong_target entrance) next.is) ∙ sought.same
+
+    pub sought_wrong : leads_wrong entrance p.role ≡ true → Some p.at ≡ wrong_target entrance (all_pieces text)
+    sought_wrong e = sym (ap (λ b. cond b (Some p.at) (wrong_target entrance next.more)) e) ∙ step
+
+    pub sought_on : leads_wrong entrance p.role ≡ false → Sought entrance text (at + p.len)
+    sought_on e = record {
+      rest = next.more;
+      left = next.left;
+      same = sym (ap (λ b. cond b (Some p.at) (wrong_target entrance next.more)) e) ∙ step;
+    }
 
 -- The same where control may come in gives the same branch.
 leads_same : (f g : ℕ → Bool) → ((k : ℕ) → f k ≡ g k) → (p : Piece) → leads_wrong f p.role ≡ leads_wrong g p.role

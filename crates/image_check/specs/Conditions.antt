@@ -37,8 +37,11 @@ last_at ps = at_of (slice_get ps (length ps - 1))
 abbrev pub ends_at : List ℕ → ℕ → Bool
 ends_at text at = at + 2 == length text && slice_index text at == 0xEB && slice_index text (at + 1) == 0xFE
 
+abbrev pub text_end_by : List ℕ → ℕ → Option ℕ
+text_end_by text at = then_some (not (ends_at text at)) at
+
 abbrev pub text_end : List ℕ → List Piece → Option ℕ
-text_end text ps = then_some (not (ends_at text (last_at ps))) (last_at ps)
+text_end text ps = text_end_by text (last_at ps)
 
 -- the lowest offset at which a sensitive instruction lacks its NOPs, or the annotations and the sites differ
 abbrev pub site_wrong : List Site → List Piece → Option ℕ

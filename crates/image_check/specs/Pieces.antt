@@ -1,8 +1,8 @@
 -- What the conditions on an image ask of its instructions.
-use Rattle.std.specs.Prelude.{ℕ, ◌+◌, ◌%◌, ◌^◌, Bool, true, false, List, drop, map, Option, Result, is_ok, ◌==◌, if◌then◌else◌}
+use Rattle.std.specs.Prelude.{ℕ, ◌+◌, ◌%◌, ◌^◌, Bool, true, false, List, [], drop, map, Option, Result, is_ok, ◌==◌, if◌then◌else◌}
 use Rattle.std.specs.List.{list_any}
 use Rattle.std.specs.Option.{option_map_or}
-use Rattle.std.specs.Result.{result_map_both}
+use Rattle.std.specs.Result.{result_map_both, result_unwrap_or}
 use Rattle.ia32_types.specs.Branches.{is_direct_branch}
 use Rattle.ia32_types.specs.declared.insn.Insn.{Insn}
 use Rattle.ia32_types.specs.declared.insn.Op.{Op}
@@ -51,6 +51,10 @@ pieces_of text swept = result_map_both (map piece_of) (λ at. Wrong at (stop_cau
 -- the instructions of a text, or why there are none
 unfoldable pub pieces_in : List ℕ → Result (List Piece) Refusal
 pieces_in text = pieces_of text (sweep text)
+
+-- the instructions of a text, none where the sweep stops
+unfoldable pub all_pieces : List ℕ → List Piece
+all_pieces text = result_unwrap_or (pieces_in text) []
 
 -- whether an instruction stands at an offset
 abbrev pub is_piece_start : List Piece → ℕ → Bool

@@ -11,9 +11,11 @@ ghost use Rattle.elf_form.specs.Reading.{image_in};
 ghost use Rattle.sites.specs.Formats.{told_format, listed};
 ghost use Rattle.image_check.specs.Refusals.{Form, Wrong, test};
 ghost use Rattle.image_check.specs.Answers.{Gives};
-ghost use Rattle.image_check.specs.Pieces.{pieces_in, is_piece_start};
+ghost use Rattle.sites.specs.declared.limits.TheConstants.{TEXT_LIMIT};
+ghost use Rattle.image_check.specs.Pieces.{all_pieces, is_piece_start};
+ghost use Rattle.image_check.specs.Stops.{AreLeft};
 ghost use Rattle.image_check.specs.Targets.{is_entrance, wrong_target};
-ghost use Rattle.image_check.specs.Conditions.{last_at, ends_at, text_end, site_wrong, entry_start_by};
+ghost use Rattle.image_check.specs.Conditions.{last_at, ends_at, text_end_by, site_wrong, entry_start_by};
 ghost use Rattle.image_check.specs.Checking.{as_form, as_sites, annotated, entered, image_from, image_of, image_with};
 ghost use Rattle.image_check.specs.Accepts.{AreStarts, Accepts};
 ghost use Rattle.image_check.specs.Causes.{wrong, causes};
@@ -24,24 +26,14 @@ ghost use Rattle.image_check.specs.declared.fault.CheckCause.TheVariants.{SiteWr
 
 use crate::checked::Checked;
 use crate::fault::{CheckCause, CheckFault};
-use crate::piece::Piece;
 use crate::placing::{placed, test};
 use crate::site::{differ, find_sites};
-use crate::sweeping::{Swept, sweep};
+use crate::sweeping::sweep;
 use crate::target::{entrances, wrong_target};
 use elf_form::{ElfFault, Image, read_image};
 use ia32_types::TEXT_ADDRESS;
 use sites::{Sites, SitesFault, read_sites};
 use std::alloc::Global;
-
-fn last_at(pieces: &[Piece]) -> u32
-    ensures { result ≡ last_at pieces.now }
-{
-    match pieces.last() {
-        None => 0,
-        Some(piece) => piece.at,
-    }
-}
 
 fn ends_at(text: &[u8], at: usize) -> bool
     requires { at < 2 ^ 32 }
@@ -50,11 +42,10 @@ fn ends_at(text: &[u8], at: usize) -> bool
     at + 2 == text.len() && text[at] == 0xEB && text[at + 1] == 0xFE
 }
 
-fn text_end(text: &[u8], pieces: &[Piece]) -> Option<u32>
-    ensures { result ≡ text_end text.now pieces.now }
+fn text_end(text: &[u8], last: u32) -> Option<u32>
+    ensures { result ≡ text_end_by text.now last }
 {
-    let at = last_at(pieces);
-    (!ends_at(text, at as usize)).then_some(at)
+    (!ends_at(text, last as usize)).then_some(last)
 }
 
 fn annotations(alloc: Global, bytes: &[u8]) -> Result<Sites, CheckFault>
@@ -86,10 +77,12 @@ fn lower(a: Option<u32>, b: Option<u32>) -> Option<u32>
 }
 
 /// The test of the sites of a text against its annotations.
-fn sites_tested(alloc: Global, sites: &Sites, pieces: &[Piece]) -> Result<(), CheckFault>
-    ensures { Gives (λ _. tt) result (test SiteWrong (site_wrong sites.now.list pieces.now)) }
+fn sites_tested(alloc: Global, sites: &Sites, text: &[u8]) -> Result<(), CheckFault>
+    requires limit { length text.now ≤ TEXT_LIMIT }
+    requires left { AreLeft text.now 0 (all_pieces text.now) }
+    ensures { Gives (λ _. tt) result (test SiteWrong (site_wrong sites.now.list (all_pieces text.now))) }
 {
-    let found = find_sites(alloc, pieces)?;
+    let found = find_sites(alloc, text)?;
     test(
         CheckCause::SiteWrong,
         lower(found.lacking, differ(&sites.list, &found.sites)),
@@ -107,26 +100,31 @@ fn entry_start(image: &Image, entrances: &[bool]) -> Option<u32>
 
 /// The tests of the end of the text and of the annotations.
 #[tactic(auto, unfolding(crate::specs::Checking::annotated))]
-fn annotated(alloc: Global, image: &Image, pieces: &[Piece]) -> Result<Sites, CheckFault>
-    requires { length image.now.sites < 2 ^ 32 }
-    ensures exact { Gives (λ sites. sites.list) result (annotated image.now pieces.now) }
+fn annotated(alloc: Global, image: &Image, last: u32) -> Result<Sites, CheckFault>
+    requires few { length image.now.sites < 2 ^ 32 }
+    requires limit { length image.now.text ≤ TEXT_LIMIT }
+    requires left { AreLeft image.now.text 0 (all_pieces image.now.text) }
+    requires last { last ≡ last_at (all_pieces image.now.text) }
+    ensures exact { Gives (λ sites. sites.list) result (annotated image.now (all_pieces image.now.text)) }
     ensures told { IfOk result (λ sites. sites.format ≡ told_format image.now.sites) }
 {
-    test(CheckCause::TextEnd, text_end(&image.text, pieces))?;
+    test(CheckCause::TextEnd, text_end(&image.text, last))?;
     let sites = annotations(alloc, &image.sites)?;
-    sites_tested(alloc, &sites, pieces)?;
+    sites_tested(alloc, &sites, &image.text)?;
     Ok(sites)
 }
 
 /// The tests of where control comes in, by a branch and at the entry.
 #[tactic(auto, unfolding(crate::specs::Checking::entered))]
-fn entered(alloc: Global, image: &Image, swept: &Swept, sites: &Sites) -> Result<(), CheckFault>
-    requires starts { (i : ℕ) → slice_index_or swept.now.starts.items i false ≡ is_piece_start swept.now.pieces.items i }
+fn entered(alloc: Global, image: &Image, starts: &[bool], sites: &Sites) -> Result<(), CheckFault>
+    requires limit { length image.now.text ≤ TEXT_LIMIT }
+    requires left { AreLeft image.now.text 0 (all_pieces image.now.text) }
+    requires starts { (i : ℕ) → slice_index_or starts.now i false ≡ is_piece_start (all_pieces image.now.text) i }
     requires entry { TEXT_ADDRESS ≤ image.now.entry }
-    ensures { Gives (λ _. tt) result (entered image.now swept.now.pieces.items sites.now.list) }
+    ensures { Gives (λ _. tt) result (entered image.now (all_pieces image.now.text) sites.now.list) }
 {
-    let entrances = entrances(alloc, &swept.starts, &sites.list)?;
-    test(CheckCause::Target, wrong_target(&swept.pieces, &entrances))?;
+    let entrances = entrances(alloc, starts, &sites.list)?;
+    test(CheckCause::Target, wrong_target(&image.text, &entrances))?;
     test(CheckCause::EntryStart, entry_start(image, &entrances))
 }
 
@@ -140,8 +138,8 @@ fn tested(alloc: Global, image: &Image) -> Result<(Sites, Vec<bool>), CheckFault
 {
     placed(image)?;
     let swept = sweep(alloc, &image.text)?;
-    let sites = annotated(alloc, image, &swept.pieces)?;
-    entered(alloc, image, &swept, &sites)?;
+    let sites = annotated(alloc, image, swept.last)?;
+    entered(alloc, image, &swept.starts, &sites)?;
     Ok((sites, swept.starts))
 }
 

@@ -1,10 +1,15 @@
 //! The sites of a text, and where the annotations differ from them.
 
-ghost use Rattle.std.specs.Prelude.{◌≡◌, ◌-◌, ◌≤◌, List, IfOk, ◌&&◌};
+ghost use Rattle.std.specs.Prelude.{◌≡◌, ◌≤◌, List, length, IfOk};
 ghost use Rattle.sites.specs.Kinds.{number};
+ghost use Rattle.sites.specs.declared.limits.TheConstants.{TEXT_LIMIT};
+ghost use Rattle.image_check.specs.declared.piece.Piece.{Piece as PieceView};
+ghost use Rattle.image_check.specs.Pieces.{all_pieces};
+ghost use Rattle.image_check.specs.Stops.{AreLeft};
 ghost use Rattle.image_check.specs.TextSites.{is_nop_role, is_sti, is_hlt, has_nops, has_hlt, begun_by, pair, single, found_in, is_same, differ};
 
 use crate::piece::{Piece, Role};
+use crate::sweeping::piece_there;
 use ia32_types::SiteKind;
 use sites::Site;
 use std::alloc::{AllocError, Global};
@@ -42,29 +47,41 @@ fn is_hlt(role: Role) -> bool
     matches!(role, Role::Site(SiteKind::Hlt))
 }
 
-/// Whether so many NOPs come first.
-fn has_nops(count: u8, pieces: &[Piece]) -> bool
-    ensures { result ≡ has_nops count pieces.now }
+/// Whether so many NOPs come first of the instructions from an offset on.
+fn has_nops(count: u8, text: &[u8], from: usize) -> bool
+    requires inside { from ≤ length text.now }
+    requires limit { length text.now ≤ TEXT_LIMIT }
+    ensures { (ps : List PieceView) → AreLeft text.now from ps → result ≡ has_nops count ps }
 {
-    for i in 0..count as usize {
-        if i >= pieces.len() {
-            return false;
-        }
-        let piece = pieces[i];
-        if !is_nop_role(piece.role) {
-            return false;
+    let mut at = from;
+    for _ in 0..count {
+        match piece_there(text, at) {
+            None => return false,
+            Some(piece) => {
+                if !is_nop_role(piece.role) {
+                    return false;
+                }
+                at += piece.len as usize;
+            }
         }
     }
     true
 }
 
-/// Whether HLT and three NOPs come first.
-fn has_hlt(pieces: &[Piece]) -> bool
-    ensures { result ≡ has_hlt pieces.now }
+/// Whether HLT and three NOPs come first of the instructions from an offset on.
+fn has_hlt(text: &[u8], at: usize) -> bool
+    requires inside { at ≤ length text.now }
+    requires limit { length text.now ≤ TEXT_LIMIT }
+    ensures { (ps : List PieceView) → AreLeft text.now at ps → result ≡ has_hlt ps }
 {
-    match pieces {
-        [] => false,
-        [first, rest @ ..] => is_hlt(first.role) && has_nops(3, rest),
+    match piece_there(text, at) {
+        None => false,
+        Some(first) => {
+            if !is_hlt(first.role) {
+                return false;
+            }
+            has_nops(3, text, at + first.len as usize)
+        }
     }
 }
 
@@ -90,18 +107,20 @@ fn single(piece: Piece, kind: SiteKind) -> Site
     }
 }
 
-/// What an instruction begins, by those after it.
+/// What an instruction begins, by those from an offset on.
 #[tactic(auto, unfolding(crate::specs::TextSites::begun_by))]
-fn begun_by(piece: Piece, rest: &[Piece]) -> Here
-    ensures { result ≡ begun_by piece rest.now }
+fn begun_by(piece: Piece, text: &[u8], at: usize) -> Here
+    requires inside { at ≤ length text.now }
+    requires limit { length text.now ≤ TEXT_LIMIT }
+    ensures { (ps : List PieceView) → AreLeft text.now at ps → result ≡ begun_by piece ps }
 {
-    if is_sti(piece.role) && has_hlt(rest) {
+    if is_sti(piece.role) && has_hlt(text, at) {
         return Here::Makes(pair(piece));
     }
     match piece.role {
         Role::Site(kind) => {
             let site = single(piece, kind);
-            if has_nops(site.total - piece.len, rest) {
+            if has_nops(site.total - piece.len, text, at) {
                 Here::Makes(site)
             } else {
                 Here::Lacks
@@ -112,19 +131,22 @@ fn begun_by(piece: Piece, rest: &[Piece]) -> Here
 }
 
 /// The sites of a text.
-pub fn find_sites(alloc: Global, pieces: &[Piece]) -> Result<Found, AllocError>
-    ensures sites { IfOk result (λ found. found.sites.items ≡ (found_in pieces.now).sites) }
-    ensures lacking { IfOk result (λ found. found.lacking ≡ (found_in pieces.now).lacking) }
+pub fn find_sites(alloc: Global, text: &[u8]) -> Result<Found, AllocError>
+    requires limit { length text.now ≤ TEXT_LIMIT }
+    requires left { AreLeft text.now 0 (all_pieces text.now) }
+    ensures sites { IfOk result (λ found. found.sites.items ≡ (found_in (all_pieces text.now)).sites) }
+    ensures lacking { IfOk result (λ found. found.lacking ≡ (found_in (all_pieces text.now)).lacking) }
 {
     let mut sites = Vec::new(alloc);
     let mut skipped: u8 = 0;
-    for i in 0..pieces.len() {
-        let piece = pieces[i];
+    let mut at = 0;
+    while let Some(piece) = piece_there(text, at) {
+        at += piece.len as usize;
         if skipped > 0 {
             skipped -= 1;
             continue;
         }
-        match begun_by(piece, &pieces[i + 1..]) {
+        match begun_by(piece, text, at) {
             Here::Nothing => {}
             Here::Lacks => {
                 return Ok(Found {

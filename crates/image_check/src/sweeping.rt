@@ -1,23 +1,22 @@
 //! The sweep of a text.
 
-ghost use Rattle.std.specs.Prelude.{◌≡◌, ℕ, ◌+◌, ◌<◌, ◌≤◌, ◌≢◌, length, drop, slice_index_or, false, IfOk, IsTrue, IsNone, is_some};
+ghost use Rattle.std.specs.Prelude.{◌≡◌, ℕ, ◌+◌, ◌≤◌, length, drop, slice_index_or, false, IfOk, IfSome};
 ghost use Rattle.sites.specs.declared.limits.TheConstants.{TEXT_LIMIT};
 ghost use Rattle.image_check.specs.Answers.{Gives};
-ghost use Rattle.image_check.specs.Sweep.{swept_at};
-ghost use Rattle.image_check.specs.Pieces.{is_refused, stop_cause, pieces_in, is_piece_start};
-ghost use Rattle.image_check.specs.Stops.{piece_as};
-ghost use Rattle.ia32_decode.specs.Decoding.{decoded};
+ghost use Rattle.image_check.specs.Pieces.{is_refused, stop_cause, pieces_in, all_pieces, is_piece_start};
+ghost use Rattle.image_check.specs.Conditions.{last_at};
+ghost use Rattle.image_check.specs.Stops.{piece_there, AreLeft};
 
 use crate::fault::{CheckCause, CheckFault};
 use crate::piece::{Piece, role_of};
 use ia32_decode::{Decoded, decode, refused};
 use std::alloc::Global;
 
-/// The instructions of a text, and for each of its bytes whether one begins there.
+/// For each byte of a text whether an instruction begins there, and the offset of the last one.
 #[derive(Drop)]
 pub struct Swept {
-    pub pieces: Vec<Piece>,
     pub starts: Vec<bool>,
+    pub last: u32,
 }
 
 fn is_refused(bytes: &[u8]) -> bool
@@ -44,47 +43,59 @@ fn rest_of(text: &[u8], at: usize) -> &[u8]
     &text[at..]
 }
 
-/// The instruction at an offset.
-fn piece_at(text: &[u8], at: usize) -> Result<Piece, CheckFault>
-    requires inside { at < length text.now }
+/// The instruction at an offset, where one stands there.
+pub fn piece_there(text: &[u8], at: usize) -> Option<Piece>
+    requires inside { at ≤ length text.now }
     requires limit { length text.now ≤ TEXT_LIMIT }
-    ensures exact { Gives (λ p. p) result (piece_as text.now (swept_at at (decoded (drop at text.now)))) }
-    ensures room { IfOk result (λ p. (1 ≤ p.len) × (at + p.len ≤ length text.now)) }
-    ensures place { IfOk result (λ p. p.at ≡ at) }
+    ensures exact { result ≡ piece_there text.now at }
+    ensures room { IfSome result (λ p. (1 ≤ p.len) × (at + p.len ≤ length text.now)) }
+    ensures place { IfSome result (λ p. p.at ≡ at) }
 {
-    let rest = rest_of(text, at);
-    match decode(rest) {
+    match decode(rest_of(text, at)) {
         Decoded::Insn(insn, len) => {
-            Ok(Piece {
+            Some(Piece {
                 at: at as u32,
                 len,
                 role: role_of(at as u32, len, &insn),
             })
         }
-        Decoded::Short | Decoded::Outside => {
-            Err(CheckFault::At {
-                at: at as u32,
-                cause: stop_cause(rest),
-            })
-        }
+        Decoded::Short | Decoded::Outside => None,
     }
 }
 
-/// The instructions of a text, one directly after the other.
+/// Why the sweep stops at an offset.
+fn stopped(text: &[u8], at: usize) -> CheckFault
+    requires inside { at ≤ length text.now }
+    requires limit { length text.now ≤ TEXT_LIMIT }
+    ensures { result ≡ CheckFault.At at (stop_cause (drop at text.now)) }
+{
+    CheckFault::At {
+        at: at as u32,
+        cause: stop_cause(rest_of(text, at)),
+    }
+}
+
+/// Goes through the instructions of a text, one directly after the other. They aren't kept: what asks for them
+/// reads them again.
 pub fn sweep(alloc: Global, text: &[u8]) -> Result<Swept, CheckFault>
     requires { length text.now ≤ TEXT_LIMIT }
-    ensures pieces { Gives (λ swept. swept.pieces.items) result (pieces_in text.now) }
-    ensures starts { IfOk result (λ swept. (i : ℕ) → slice_index_or swept.starts.items i false ≡ is_piece_start swept.pieces.items i) }
-    ensures len { IfOk result (λ swept. length swept.starts.items ≡ length text.now) }
+    ensures pieces { Gives (λ _. all_pieces text.now) result (pieces_in text.now) }
+    ensures left { IfOk result (λ _. AreLeft text.now 0 (all_pieces text.now)) }
+    ensures starts { IfOk result (λ swept. (i : ℕ) → slice_index_or swept.starts.items i false ≡ is_piece_start (all_pieces text.now) i) }
+    ensures last { IfOk result (λ swept. swept.last ≡ last_at (all_pieces text.now)) }
 {
-    let mut pieces = Vec::new(alloc);
     let mut starts = vec![in alloc; false; text.len()]?;
+    let mut last = 0;
     let mut at = 0;
     while at < text.len() {
-        let piece = piece_at(text, at)?;
-        pieces.push(piece)?;
-        starts[at] = true;
-        at += piece.len as usize;
+        match piece_there(text, at) {
+            None => return Err(stopped(text, at)),
+            Some(piece) => {
+                starts[at] = true;
+                last = piece.at;
+                at += piece.len as usize;
+            }
+        }
     }
-    Ok(Swept { pieces, starts })
+    Ok(Swept { starts, last })
 }

@@ -1,10 +1,14 @@
 //! Where control may come in from elsewhere.
 
-ghost use Rattle.std.specs.Prelude.{◌≡◌, ℕ, ◌&&◌, ◌<◌, false, not, nat_lt, length, slice_index_or, IfOk};
+ghost use Rattle.std.specs.Prelude.{◌≡◌, ℕ, ◌&&◌, ◌<◌, ◌≤◌, false, not, nat_lt, length, slice_index_or, IfOk};
 ghost use Rattle.std.specs.List.{list_any};
+ghost use Rattle.sites.specs.declared.limits.TheConstants.{TEXT_LIMIT};
+ghost use Rattle.image_check.specs.Pieces.{all_pieces};
+ghost use Rattle.image_check.specs.Stops.{AreLeft};
 ghost use Rattle.image_check.specs.Targets.{is_inside, leads_wrong, wrong_target};
 
-use crate::piece::{Piece, Role};
+use crate::piece::Role;
+use crate::sweeping::piece_there;
 use sites::Site;
 use std::alloc::{AllocError, Global};
 
@@ -47,15 +51,18 @@ fn leads_wrong(entrances: &[bool], role: Role) -> bool
     }
 }
 
-/// The offset of the first direct branch that leads elsewhere.
-pub fn wrong_target(pieces: &[Piece], entrances: &[bool]) -> Option<u32>
-    ensures { result ≡ wrong_target (λ i. slice_index_or entrances.now i false) pieces.now }
+/// The offset of the first direct branch of a text that leads elsewhere.
+pub fn wrong_target(text: &[u8], entrances: &[bool]) -> Option<u32>
+    requires limit { length text.now ≤ TEXT_LIMIT }
+    requires left { AreLeft text.now 0 (all_pieces text.now) }
+    ensures { result ≡ wrong_target (λ i. slice_index_or entrances.now i false) (all_pieces text.now) }
 {
-    for i in 0..pieces.len() {
-        let piece = pieces[i];
+    let mut at = 0;
+    while let Some(piece) = piece_there(text, at) {
         if leads_wrong(entrances, piece.role) {
             return Some(piece.at);
         }
+        at += piece.len as usize;
     }
     None
 }

@@ -1,7 +1,13 @@
-use Rattle.std.proofs.Common.{◌≡◌, drop, false}
+use Rattle.std.proofs.Common.{◌-◌, ◌≤◌, length, false}
 use Rattle.std.specs.Prelude.{slice_index_or}
-use Rattle.image_check.specs.Targets.{wrong_target}
+use Rattle.image_check.proofs.TargetSteps.{Sought}
 use Rattle.image_check.proofs.target.wrong_target.Given as goal
 
-abbrev pub invariant-loop-i : goal.invariant-loop-i
-invariant-loop-i l = wrong_target (λ k. slice_index_or l.entrances k false) (drop l.i l.pieces) ≡ wrong_target (λ k. slice_index_or l.entrances k false) l.pieces
+abbrev pub invariant-loop-piece : goal.invariant-loop-piece
+invariant-loop-piece l = record {
+  sought : Sought (λ k. slice_index_or l.entrances k false) l.text l.at;
+  within : l.at ≤ length l.text;
+}
+
+abbrev pub decreases-loop-piece : goal.decreases-loop-piece
+decreases-loop-piece l = length l.text - l.at
