@@ -18,27 +18,40 @@ loop-at-init c =
 
 pub returns-in-None-clause-pieces : goal.returns-in-None-clause-pieces
 returns-in-None-clause-pieces c =
-    let wrong = went_wrong c.args.text.now c.loop-at.starts.items c.loop-at.last c.loop-at.at c.loop-at-test.true (sym c.piece_there.ensures.exact ∙ c.in-None.is) c.loop-at.invariant.went in
+    let l = c.loop-at in
+    let none = sym c.piece_there.ensures.exact ∙ c.in-None.is in
+    let wrong = went_wrong c.args.text.now l.starts.items l.last l.at c.loop-at-test.true none l.invariant.went in
     subst (λ (fault : CheckFault). Fails fault (pieces_in c.args.text.now)) (sym c.stopped.ensures) wrong
 
 pub loop-at-preserved : goal.loop-at-preserved
 loop-at-preserved c =
+    let l = c.loop-at in
     let p = c.in-Some.piece in
+    let there = sym c.piece_there.ensures.exact ∙ c.in-Some.is in
     let room = c.in-Some.ensures.room in
+    let on = went_on c.args.text.now l.starts.items l.last l.at p c.loop-at-test.true l.invariant.len c.in-Some.ensures.place in
     record {
-      went = went_on c.args.text.now c.loop-at.starts.items c.loop-at.last c.loop-at.at p c.loop-at-test.true c.loop-at.invariant.len c.in-Some.ensures.place room.0 (sym c.piece_there.ensures.exact ∙ c.in-Some.is) c.loop-at.invariant.went;
-      len = length-set c.loop-at.starts.items c.loop-at.at _ ∙ c.loop-at.invariant.len;
+      went = on room.0 there l.invariant.went;
+      len = length-set l.starts.items l.at _ ∙ l.invariant.len;
       within = room.1;
     }
 
 pub returns-clause-pieces : goal.returns-clause-pieces
-returns-clause-pieces c = (is_through c.args.text.now c.loop-at.starts.items c.loop-at.last c.loop-at.at c.loop-at-test.false c.loop-at.invariant.within c.loop-at.invariant.went).pieces
+returns-clause-pieces c =
+    let l = c.loop-at in
+    (is_through c.args.text.now l.starts.items l.last l.at c.loop-at-test.false l.invariant.within l.invariant.went).pieces
 
 pub returns-clause-left : goal.returns-clause-left
-returns-clause-left c = (is_through c.args.text.now c.loop-at.starts.items c.loop-at.last c.loop-at.at c.loop-at-test.false c.loop-at.invariant.within c.loop-at.invariant.went).left
+returns-clause-left c =
+    let l = c.loop-at in
+    (is_through c.args.text.now l.starts.items l.last l.at c.loop-at-test.false l.invariant.within l.invariant.went).left
 
 pub returns-clause-starts : goal.returns-clause-starts
-returns-clause-starts c = (is_through c.args.text.now c.loop-at.starts.items c.loop-at.last c.loop-at.at c.loop-at-test.false c.loop-at.invariant.within c.loop-at.invariant.went).marked
+returns-clause-starts c =
+    let l = c.loop-at in
+    (is_through c.args.text.now l.starts.items l.last l.at c.loop-at-test.false l.invariant.within l.invariant.went).marked
 
 pub returns-clause-last : goal.returns-clause-last
-returns-clause-last c = (is_through c.args.text.now c.loop-at.starts.items c.loop-at.last c.loop-at.at c.loop-at-test.false c.loop-at.invariant.within c.loop-at.invariant.went).last_is
+returns-clause-last c =
+    let l = c.loop-at in
+    (is_through c.args.text.now l.starts.items l.last l.at c.loop-at-test.false l.invariant.within l.invariant.went).last_is
