@@ -1,8 +1,7 @@
 -- The sections of a written object, and what each is read as.
 use Rattle.std.proofs.Common.{◌≡◌, ℕ, ◌+◌, ◌/◌, Bool, true, false, cond, eqb, List, [], ◌∷◌, length, fold, map, refl, ap, ◌∙◌, arith}
-use Rattle.std.specs.Prelude.{◌||◌, ◌==◌, ◌%◌, ◌^◌, filter}
+use Rattle.std.specs.Prelude.{◌||◌, ◌==◌, filter}
 use Rattle.std.specs.List.{flat_map}
-use Rattle.std.proofs.lemmas.Bool.{cond-true, cond-false}
 use Rattle.std.proofs.lemmas.List.{append-nil}
 use Rattle.std.proofs.lemmas.List.Sums.{length-filter}
 use Rattle.elf_form.specs.declared.roles.Role.{Role}
@@ -10,6 +9,7 @@ use Rattle.elf_form.specs.declared.roles.Role.TheVariants as role
 use Rattle.elf_form.specs.declared.object.Place.{Place}
 use Rattle.elf_form.specs.declared.object.Place.TheVariants as place
 use Rattle.elf_form.specs.ObjectParts.{ObjectParts}
+use Rattle.guest_ram.specs.Bytes.{word32}
 use Rattle.elf_form.specs.Tables.{entries, found}
 use Rattle.elf_form.specs.Header.{headers, sections}
 use Rattle.elf_form.specs.Sections.{contents, names, strings_in}
@@ -48,7 +48,9 @@ module _ (f : List ℕ) (o : ObjectParts) (is : IsFileOf f o) where
 
   pub names-are : names f ≡ object_names
   unfolding names strings_in contents
-  names-are = rw (is.header.names, is.header.section_count, is.header.sections) (rw is.names.kind (rw (is.names.offset, is.names.size) is.names_are))
+  names-are =
+      rw (is.header.names, is.header.section_count, is.header.sections)
+      (rw is.names.kind (rw (is.names.offset, is.names.size) is.names_are))
 
 -- ---- what each is read as
 
@@ -79,7 +81,18 @@ roles-are f o is = record {
   names = rw (is.names.kind, is.names.name, is.names.flags) refl;
 }
 
--- the section that one role picks
+-- the same, in the order of the table
+abbrev ten_roles : List Role
+ten_roles =
+    role.Ignored ∷ role.Text ∷ role.Init ∷ role.Bss ∷ role.Sites
+    ∷ role.Relocs ∷ role.Relocs ∷ role.Symbols ∷ role.Ignored ∷ role.Ignored ∷ []
+
+rows_read : (f : List ℕ) (t : ℕ) → HasRoles f t → map (role_of object_names f) (rows t) ≡ ten_roles
+unfolding rows
+rows_read f t has =
+    rw (has.null, has.text, has.init, has.bss, has.sites, has.text_relocs, has.data_relocs, has.symbols, has.strings, has.names) refl
+
+-- the sections that are read as one role
 abbrev picked : Role → ℕ → List ℕ
 picked role.Ignored t = t ∷ (t + 320) ∷ (t + 360) ∷ []
 picked role.Sites t = (t + 160) ∷ []
@@ -108,22 +121,20 @@ keep_by false s rest = refl
 filter_by : (p : ℕ → Bool) (ss : List ℕ) → filter p ss ≡ kept_where (map p ss) ss
 unfolding kept_where
 filter_by p [] = refl
-filter_by p (s ∷ ss) = ap (λ (rest : List ℕ). cond (p s) (s ∷ rest) rest) (filter_by p ss) ∙ keep_by (p s) s (kept_where (map p ss) ss)
+filter_by p (s ∷ ss) =
+    ap (λ (rest : List ℕ). cond (p s) (s ∷ rest) rest) (filter_by p ss) ∙ keep_by (p s) s (kept_where (map p ss) ss)
 
 filter_where : (p : ℕ → Bool) (ss : List ℕ) (bs : List Bool) → map p ss ≡ bs → filter p ss ≡ kept_where bs ss
 filter_where p ss bs e = filter_by p ss ∙ ap (λ (tests : List Bool). kept_where tests ss) e
 
--- the tests of the ten sections, by their roles
-abbrev tests : Role → List Bool
-tests r =
-    let is : Role → Bool = λ q. role_number q == role_number r in
-    is role.Ignored ∷ is role.Text ∷ is role.Init ∷ is role.Bss ∷ is role.Sites ∷ is role.Relocs ∷ is role.Relocs ∷ is role.Symbols ∷ is role.Ignored ∷ is role.Ignored ∷ []
+abbrev is_as : Role → Role → Bool
+is_as r q = role_number q == role_number r
 
-tested : (f : List ℕ) (t : ℕ) (r : Role) → HasRoles f t → map (has_role r object_names f) (rows t) ≡ tests r
+tested : (f : List ℕ) (t : ℕ) (r : Role) → HasRoles f t → map (has_role r object_names f) (rows t) ≡ map (is_as r) ten_roles
 unfolding rows
-tested f t r has = rw (has.null, has.text, has.init, has.bss, has.sites, has.text_relocs, has.data_relocs, has.symbols, has.strings, has.names) refl
+tested f t r has = ap (map (is_as r)) (rows_read f t has)
 
-kept_rows : (t : ℕ) (r : Role) → kept_where (tests r) (rows t) ≡ picked r t
+kept_rows : (t : ℕ) (r : Role) → kept_where (map (is_as r) ten_roles) (rows t) ≡ picked r t
 unfolding kept_where keep rows
 kept_rows t role.Ignored = refl
 kept_rows t role.Sites = refl
@@ -135,44 +146,15 @@ kept_rows t role.Symbols = refl
 kept_rows t role.Relocs = refl
 
 picks : (f : List ℕ) (t : ℕ) (r : Role) → HasRoles f t → filter (has_role r object_names f) (rows t) ≡ picked r t
-picks f t r has = filter_where (has_role r object_names f) (rows t) (tests r) (tested f t r has) ∙ kept_rows t r
-
--- ---- joining, a section at a time
-
-is_role : (r q : Role) (f : List ℕ) (s : ℕ) → role_of object_names f s ≡ q → has_role r object_names f s ≡ (role_number q == role_number r)
-is_role r q f s e = ap (λ (x : Role). role_number x == role_number r) e
-
-starts-skip : (r : Role) (f : List ℕ) (end s : ℕ) (rest xs : List ℕ) → has_role r object_names f s ≡ false → starts r object_names f end rest ≡ xs → starts r object_names f end (s ∷ rest) ≡ 0 ∷ xs
-unfolding starts
-starts-skip r f end s rest xs e then = cond-false _ _ _ e ∙ ap (λ (x : List ℕ). 0 ∷ x) then
-
-starts-take : (r : Role) (f : List ℕ) (end a s : ℕ) (rest xs : List ℕ) → has_role r object_names f s ≡ true → alignment f s ≡ a → starts r object_names f (up a end + size f s) rest ≡ xs → starts r object_names f end (s ∷ rest) ≡ up a end % 2 ^ 32 ∷ xs
-unfolding starts
-starts-take r f end a s rest xs e aligned then = cond-true _ _ _ e ∙ rw aligned (ap (λ (x : List ℕ). up a end % 2 ^ 32 ∷ x) then)
-
--- where a section ends, after an end
-abbrev ended : List ℕ → ℕ → ℕ → ℕ
-ended f end s = up (alignment f s) end + size f s
-
-end-skip : (r : Role) (f : List ℕ) (end s : ℕ) (rest : List ℕ) (n : ℕ) → has_role r object_names f s ≡ false → joined_end r object_names f end rest ≡ n → joined_end r object_names f end (s ∷ rest) ≡ n
-unfolding joined_end
-end-skip r f end s rest n e then = ap (fold (ended f) end) (cond-false (has_role r object_names f s) (s ∷ filter (has_role r object_names f) rest) (filter (has_role r object_names f) rest) e) ∙ then
-
-end-take : (r : Role) (f : List ℕ) (end s : ℕ) (rest : List ℕ) (n : ℕ) → has_role r object_names f s ≡ true → joined_end r object_names f (up (alignment f s) end + size f s) rest ≡ n → joined_end r object_names f end (s ∷ rest) ≡ n
-unfolding joined_end
-end-take r f end s rest n e then = ap (fold (ended f) end) (cond-true (has_role r object_names f s) (s ∷ filter (has_role r object_names f) rest) (filter (has_role r object_names f) rest) e) ∙ then
-
-joined-skip : (f init : List ℕ) (s : ℕ) (rest xs : List ℕ) → has_role role.Init object_names f s ≡ false → joined object_names f init rest ≡ xs → joined object_names f init (s ∷ rest) ≡ xs
-unfolding joined
-joined-skip f init s rest xs e then = ap (fold (with_section f) init) (cond-false (has_role role.Init object_names f s) (s ∷ filter (has_role role.Init object_names f) rest) (filter (has_role role.Init object_names f) rest) e) ∙ then
-
-joined-take : (f init : List ℕ) (s : ℕ) (rest xs : List ℕ) → has_role role.Init object_names f s ≡ true → joined object_names f (with_section f init s) rest ≡ xs → joined object_names f init (s ∷ rest) ≡ xs
-unfolding joined
-joined-take f init s rest xs e then = ap (fold (with_section f) init) (cond-true (has_role role.Init object_names f s) (s ∷ filter (has_role role.Init object_names f) rest) (filter (has_role role.Init object_names f) rest) e) ∙ then
+picks f t r has = filter_where (has_role r object_names f) (rows t) (map (is_as r) ten_roles) (tested f t r has) ∙ kept_rows t r
 
 -- ---- the roles by their numbers
 
 module _ (f : List ℕ) (o : ObjectParts) (is : IsFileOf f o) (has : HasRoles f (layout o).sections) where
+  -- where the section headers begin
+  abbrev t : ℕ
+  t = (layout o).sections
+
   pub role_at-text : role_at object_names f 1 ≡ role.Text
   unfolding role_at
   role_at-text = rw (is.header.section_count, is.header.sections) has.text
@@ -193,107 +175,106 @@ module _ (f : List ℕ) (o : ObjectParts) (is : IsFileOf f o) (has : HasRoles f 
   unfolding role_at
   role_at-symbols = rw (is.header.section_count, is.header.sections) has.symbols
 
-  pub text_target : target_role object_names f ((layout o).sections + 200) ≡ role.Text
+  pub text_target : target_role object_names f (t + 200) ≡ role.Text
   text_target = rw is.links.text_target role_at-text
 
-  pub data_target : target_role object_names f ((layout o).sections + 240) ≡ role.Init
+  pub data_target : target_role object_names f (t + 240) ≡ role.Init
   data_target = rw is.links.data_target role_at-init
 
-  pub with-role : (r : Role) → with_role r object_names f ≡ found (picked r (layout o).sections)
+  pub with-role : (r : Role) → with_role r object_names f ≡ found (picked r t)
   unfolding with_role
-  with-role r = rw (sections-are f o is) (ap found (picks f (layout o).sections r has))
+  with-role r = rw (sections-are f o is) (ap found (picks f t r has))
 
   -- ---- the symbol table and its names
 
-  symbol-bytes : contents f ((layout o).sections + 280) ≡ symbol_table o.symbols
+  symbol-bytes : contents f (t + 280) ≡ symbol_table o.symbols
   unfolding contents
   symbol-bytes = rw is.symbols.kind (rw (is.symbols.offset, is.symbols.size) is.symbols_are)
 
-  pub table-is : table_of f ≡ record { section = (layout o).sections + 280; at = (layout o).symbols; count = length o.symbols + 1 }
+  pub table-is : table_of f ≡ record { section = t + 280; at = (layout o).symbols; count = length o.symbols + 1 }
   unfolding table_of found
   table-is =
-      let count : length (contents f ((layout o).sections + 280)) / 16 ≡ length o.symbols + 1 = ap (λ (b : List ℕ). length b / 16) symbol-bytes ∙ omega (arith, length-symbols o.symbols) in
-      ap (λ (ns : List ℕ). table_at f (with_role role.Symbols ns f)) (names-are f o is) ∙ ap (table_at f) (with-role role.Symbols) ∙ rw (is.symbols.offset, count) refl
+      let count : length (contents f (t + 280)) / 16 ≡ length o.symbols + 1 =
+      ap (λ (b : List ℕ). length b / 16) symbol-bytes ∙ omega (arith, length-symbols o.symbols) in
+      ap (λ (ns : List ℕ). table_at f (with_role role.Symbols ns f)) (names-are f o is) ∙ ap (table_at f) (with-role role.Symbols)
+      ∙ rw (is.symbols.offset, count) refl
 
   pub strings-are : strings_of f ≡ names_table o.symbols
   unfolding strings_of strings_in contents
-  strings-are = rw table-is (rw is.links.table_link (rw (is.header.section_count, is.header.sections) (rw is.strings.kind (rw (is.strings.offset, is.strings.size) is.strings_are))))
+  strings-are =
+      rw table-is (rw is.links.table_link (rw (is.header.section_count, is.header.sections)
+      (rw is.strings.kind (rw (is.strings.offset, is.strings.size) is.strings_are))))
 
   -- ---- the relocations
 
-  text-bytes : contents f ((layout o).sections + 200) ≡ reloc_table true o.relocs
+  text-bytes : contents f (t + 200) ≡ reloc_table true o.relocs
   unfolding contents
   text-bytes = rw is.text_relocs.kind (rw (is.text_relocs.offset, is.text_relocs.size) is.text_relocs_are)
 
-  data-bytes : contents f ((layout o).sections + 240) ≡ reloc_table false o.relocs
+  data-bytes : contents f (t + 240) ≡ reloc_table false o.relocs
   unfolding contents
   data-bytes = rw is.data_relocs.kind (rw (is.data_relocs.offset, is.data_relocs.size) is.data_relocs_are)
 
   -- the tests of the ten sections, by their roles and by what is relocated
   abbrev relocating : Role → List Bool
   relocating r =
-      let is : Role → Bool = λ q. role_number q == role_number r in
-      false ∷ false ∷ false ∷ false ∷ false ∷ is role.Text ∷ is role.Init ∷ false ∷ false ∷ false ∷ []
+      false ∷ false ∷ false ∷ false ∷ false ∷ is_as r role.Text ∷ is_as r role.Init ∷ false ∷ false ∷ false ∷ []
 
-  relocs_tested : (r : Role) → map (is_reloc_section_of r object_names f) (rows (layout o).sections) ≡ relocating r
+  relocs_tested : (r : Role) → map (is_reloc_section_of r object_names f) (rows t) ≡ relocating r
   unfolding rows
-  relocs_tested r = rw (has.null, has.text, has.init, has.bss, has.sites, has.text_relocs, has.data_relocs, has.symbols, has.strings, has.names, text_target, data_target) refl
+  relocs_tested r =
+      rw (has.null, has.text, has.init, has.bss, has.sites, has.text_relocs, has.data_relocs, has.symbols, has.strings, has.names)
+      (rw (text_target, data_target) refl)
 
-  relocs_picked : (r : Role) → filter (is_reloc_section_of r object_names f) (rows (layout o).sections) ≡ kept_where (relocating r) (rows (layout o).sections)
-  relocs_picked r = filter_where (is_reloc_section_of r object_names f) (rows (layout o).sections) (relocating r) (relocs_tested r)
-
-  texts_picked : filter (is_reloc_section_of role.Text object_names f) (rows (layout o).sections) ≡ ((layout o).sections + 200) ∷ []
-  unfolding rows kept_where keep
-  texts_picked = relocs_picked role.Text
-
-  inits_picked : filter (is_reloc_section_of role.Init object_names f) (rows (layout o).sections) ≡ ((layout o).sections + 240) ∷ []
-  unfolding rows kept_where keep
-  inits_picked = relocs_picked role.Init
-
-  bss_picked : filter (is_reloc_section_of role.Bss object_names f) (rows (layout o).sections) ≡ []
-  unfolding rows kept_where keep
-  bss_picked = relocs_picked role.Bss
-
-  text_entries : relocs_in f ((layout o).sections + 200) ≡ map (entry ((layout o).sections + 200)) (entries (layout o).text_relocs 8 (length (filter (is_of true) o.relocs)))
-  unfolding relocs_in
-  text_entries =
-      let count : length (contents f ((layout o).sections + 200)) / 8 ≡ length (filter (is_of true) o.relocs) = ap (λ (b : List ℕ). length b / 8) text-bytes ∙ omega (arith, length-relocs true o.relocs, length-filter (is_of true) o.relocs) in
-      rw (is.text_relocs.offset, count) refl
-
-  data_entries : relocs_in f ((layout o).sections + 240) ≡ map (entry ((layout o).sections + 240)) (entries (layout o).data_relocs 8 (length (filter (is_of false) o.relocs)))
-  unfolding relocs_in
-  data_entries =
-      let count : length (contents f ((layout o).sections + 240)) / 8 ≡ length (filter (is_of false) o.relocs) = ap (λ (b : List ℕ). length b / 8) data-bytes ∙ omega (arith, length-relocs false o.relocs, length-filter (is_of false) o.relocs) in
-      rw (is.data_relocs.offset, count) refl
-
-  pub text-relocs : relocs_of role.Text object_names f ≡ map (entry ((layout o).sections + 200)) (entries (layout o).text_relocs 8 (length (filter (is_of true) o.relocs)))
+  relocs-are : (r : Role) → relocs_of r object_names f ≡ flat_map (relocs_in f) (kept_where (relocating r) (rows t))
   unfolding relocs_of
-  text-relocs = ap (λ (ss : List ℕ). flat_map (relocs_in f) (filter (is_reloc_section_of role.Text object_names f) ss)) (sections-are f o is) ∙ ap (flat_map (relocs_in f)) texts_picked ∙ append-nil (relocs_in f ((layout o).sections + 200)) ∙ text_entries
+  relocs-are r =
+      let test : ℕ → Bool = is_reloc_section_of r object_names f in
+      ap (λ (ss : List ℕ). flat_map (relocs_in f) (filter test ss)) (sections-are f o is)
+      ∙ ap (flat_map (relocs_in f)) (filter_where test (rows t) (relocating r) (relocs_tested r))
 
-  pub init-relocs : relocs_of role.Init object_names f ≡ map (entry ((layout o).sections + 240)) (entries (layout o).data_relocs 8 (length (filter (is_of false) o.relocs)))
-  unfolding relocs_of
-  init-relocs = ap (λ (ss : List ℕ). flat_map (relocs_in f) (filter (is_reloc_section_of role.Init object_names f) ss)) (sections-are f o is) ∙ ap (flat_map (relocs_in f)) inits_picked ∙ append-nil (relocs_in f ((layout o).sections + 240)) ∙ data_entries
+  -- how many relocations there are of the text, or of the data
+  abbrev count : Bool → ℕ
+  count in_text = length (filter (is_of in_text) o.relocs)
+
+  entries-are : (in_text : Bool) (s at : ℕ) → contents f s ≡ reloc_table in_text o.relocs → word32 f (s + 16) ≡ at
+      → relocs_in f s ≡ map (entry s) (entries at 8 (count in_text))
+  unfolding relocs_in
+  entries-are in_text s at bytes offset =
+      let n : length (contents f s) / 8 ≡ count in_text =
+      ap (λ (b : List ℕ). length b / 8) bytes ∙ omega (arith, length-relocs in_text o.relocs, length-filter (is_of in_text) o.relocs) in
+      rw (offset, n) refl
+
+  pub text-relocs : relocs_of role.Text object_names f ≡ map (entry (t + 200)) (entries (layout o).text_relocs 8 (count true))
+  unfolding rows kept_where keep
+  text-relocs =
+      relocs-are role.Text ∙ append-nil (relocs_in f (t + 200)) ∙ entries-are true (t + 200) _ text-bytes is.text_relocs.offset
+
+  pub init-relocs : relocs_of role.Init object_names f ≡ map (entry (t + 240)) (entries (layout o).data_relocs 8 (count false))
+  unfolding rows kept_where keep
+  init-relocs =
+      relocs-are role.Init ∙ append-nil (relocs_in f (t + 240)) ∙ entries-are false (t + 240) _ data-bytes is.data_relocs.offset
 
   pub bss-relocs : relocs_of role.Bss object_names f ≡ []
-  unfolding relocs_of
-  bss-relocs = ap (λ (ss : List ℕ). flat_map (relocs_in f) (filter (is_reloc_section_of role.Bss object_names f) ss)) (sections-are f o is) ∙ ap (flat_map (relocs_in f)) bss_picked
+  unfolding rows kept_where keep
+  bss-relocs = relocs-are role.Bss
 
   -- ---- where sections begin in what they are joined to
 
   nothing : ℕ → List ℕ
   nothing n = 0 ∷ 0 ∷ 0 ∷ 0 ∷ 0 ∷ 0 ∷ 0 ∷ 0 ∷ 0 ∷ 0 ∷ []
 
-  none-starts : (r : Role) (end : ℕ) → starts r object_names f end [] ≡ []
-  unfolding starts
-  none-starts r end = refl
+  init-starts : starts role.Init object_names f 0 (rows t) ≡ nothing 0
+  unfolding starts rows nothing
+  init-starts =
+      rw (has.null, has.text, has.init, has.bss, has.sites, has.text_relocs, has.data_relocs, has.symbols, has.strings, has.names)
+      (rw is.links.data_alignment refl)
 
-  init-starts : starts role.Init object_names f 0 (rows (layout o).sections) ≡ nothing 0
-  unfolding rows nothing
-  init-starts = starts-skip role.Init f _ _ _ _ (is_role role.Init role.Ignored f _ has.null) (starts-skip role.Init f _ _ _ _ (is_role role.Init role.Text f _ has.text) (starts-take role.Init f _ 16 _ _ _ (is_role role.Init role.Init f _ has.init) is.links.data_alignment (starts-skip role.Init f _ _ _ _ (is_role role.Init role.Bss f _ has.bss) (starts-skip role.Init f _ _ _ _ (is_role role.Init role.Sites f _ has.sites) (starts-skip role.Init f _ _ _ _ (is_role role.Init role.Relocs f _ has.text_relocs) (starts-skip role.Init f _ _ _ _ (is_role role.Init role.Relocs f _ has.data_relocs) (starts-skip role.Init f _ _ _ _ (is_role role.Init role.Symbols f _ has.symbols) (starts-skip role.Init f _ _ _ _ (is_role role.Init role.Ignored f _ has.strings) (starts-skip role.Init f _ _ _ _ (is_role role.Init role.Ignored f _ has.names) (none-starts role.Init _))))))))))
-
-  bss-starts : starts role.Bss object_names f 0 (rows (layout o).sections) ≡ nothing 0
-  unfolding rows nothing
-  bss-starts = starts-skip role.Bss f _ _ _ _ (is_role role.Bss role.Ignored f _ has.null) (starts-skip role.Bss f _ _ _ _ (is_role role.Bss role.Text f _ has.text) (starts-skip role.Bss f _ _ _ _ (is_role role.Bss role.Init f _ has.init) (starts-take role.Bss f _ 16 _ _ _ (is_role role.Bss role.Bss f _ has.bss) is.links.bss_alignment (starts-skip role.Bss f _ _ _ _ (is_role role.Bss role.Sites f _ has.sites) (starts-skip role.Bss f _ _ _ _ (is_role role.Bss role.Relocs f _ has.text_relocs) (starts-skip role.Bss f _ _ _ _ (is_role role.Bss role.Relocs f _ has.data_relocs) (starts-skip role.Bss f _ _ _ _ (is_role role.Bss role.Symbols f _ has.symbols) (starts-skip role.Bss f _ _ _ _ (is_role role.Bss role.Ignored f _ has.strings) (starts-skip role.Bss f _ _ _ _ (is_role role.Bss role.Ignored f _ has.names) (none-starts role.Bss _))))))))))
+  bss-starts : starts role.Bss object_names f 0 (rows t) ≡ nothing 0
+  unfolding starts rows nothing
+  bss-starts =
+      rw (has.null, has.text, has.init, has.bss, has.sites, has.text_relocs, has.data_relocs, has.symbols, has.strings, has.names)
+      (rw is.links.bss_alignment refl)
 
   pub place-read : (p : Place) → place_by (role_at object_names f (place_number p)) ≡ p
   place-read place.Undefined = rw role_at-none refl
@@ -316,30 +297,26 @@ module _ (f : List ℕ) (o : ObjectParts) (is : IsFileOf f o) (has : HasRoles f 
 
   -- ---- the data and the zeroed bytes
 
-  init-bytes : contents f ((layout o).sections + 80) ≡ o.init
+  init-bytes : contents f (t + 80) ≡ o.init
   unfolding contents
   init-bytes = rw is.init.kind (rw (is.init.offset, is.init.size) is.init_is)
 
-  pub text_bytes : contents f ((layout o).sections + 40) ≡ o.text
+  pub text_bytes : contents f (t + 40) ≡ o.text
   unfolding contents
   text_bytes = rw is.text.kind (rw (is.text.offset, is.text.size) is.text_is)
 
-  pub sites_bytes : contents f ((layout o).sections + 160) ≡ o.sites
+  pub sites_bytes : contents f (t + 160) ≡ o.sites
   unfolding contents
   sites_bytes = rw is.sites.kind (rw (is.sites.offset, is.sites.size) is.sites_is)
 
-  last-joined : joined object_names f (with_section f [] ((layout o).sections + 80)) [] ≡ o.init
+  pub joined-init : joined object_names f [] (rows t) ≡ o.init
   unfolding joined with_section
-  last-joined = rw is.links.data_alignment init-bytes
+  joined-init = ap (fold (with_section f) []) (picks f t role.Init has) ∙ rw is.links.data_alignment init-bytes
 
-  pub joined-init : joined object_names f [] (rows (layout o).sections) ≡ o.init
-  unfolding rows
-  joined-init = joined-skip f _ _ _ _ (is_role role.Init role.Ignored f _ has.null) (joined-skip f _ _ _ _ (is_role role.Init role.Text f _ has.text) (joined-take f _ _ _ _ (is_role role.Init role.Init f _ has.init) (joined-skip f _ _ _ _ (is_role role.Init role.Bss f _ has.bss) (joined-skip f _ _ _ _ (is_role role.Init role.Sites f _ has.sites) (joined-skip f _ _ _ _ (is_role role.Init role.Relocs f _ has.text_relocs) (joined-skip f _ _ _ _ (is_role role.Init role.Relocs f _ has.data_relocs) (joined-skip f _ _ _ _ (is_role role.Init role.Symbols f _ has.symbols) (joined-skip f _ _ _ _ (is_role role.Init role.Ignored f _ has.strings) (joined-skip f _ _ _ _ (is_role role.Init role.Ignored f _ has.names) last-joined)))))))))
+  -- where a section ends, after an end
+  abbrev ended : ℕ → ℕ → ℕ
+  ended end s = up (alignment f s) end + size f s
 
-  last-end : joined_end role.Bss object_names f (up (alignment f ((layout o).sections + 120)) 0 + size f ((layout o).sections + 120)) [] ≡ o.bss
+  pub joined-bss : joined_end role.Bss object_names f 0 (rows t) ≡ o.bss
   unfolding joined_end
-  last-end = rw (is.links.bss_alignment, is.bss.size) (omega arith)
-
-  pub joined-bss : joined_end role.Bss object_names f 0 (rows (layout o).sections) ≡ o.bss
-  unfolding rows
-  joined-bss = end-skip role.Bss f _ _ _ _ (is_role role.Bss role.Ignored f _ has.null) (end-skip role.Bss f _ _ _ _ (is_role role.Bss role.Text f _ has.text) (end-skip role.Bss f _ _ _ _ (is_role role.Bss role.Init f _ has.init) (end-take role.Bss f _ _ _ _ (is_role role.Bss role.Bss f _ has.bss) (end-skip role.Bss f _ _ _ _ (is_role role.Bss role.Sites f _ has.sites) (end-skip role.Bss f _ _ _ _ (is_role role.Bss role.Relocs f _ has.text_relocs) (end-skip role.Bss f _ _ _ _ (is_role role.Bss role.Relocs f _ has.data_relocs) (end-skip role.Bss f _ _ _ _ (is_role role.Bss role.Symbols f _ has.symbols) (end-skip role.Bss f _ _ _ _ (is_role role.Bss role.Ignored f _ has.strings) (end-skip role.Bss f _ _ _ _ (is_role role.Bss role.Ignored f _ has.names) last-end)))))))))
+  joined-bss = ap (fold ended 0) (picks f t role.Bss has) ∙ rw (is.links.bss_alignment, is.bss.size) (omega arith)
