@@ -8,3 +8,4 @@ pub mod Wholes
 pub mod Joining
 pub mod Freshly
 pub mod FitBehind
+pub mod NextEvents

@@ -3,6 +3,7 @@
 
 mod bare;
 mod ending;
+mod events;
 mod finish;
 mod fresh;
 mod idle;

@@ -11,7 +11,9 @@ ghost use Rattle.machine_model.specs.Step.{stepped};
 ghost use Rattle.machine_step.specs.Worked.{ComesTo, IsDropped, answer_of};
 ghost use Rattle.bare_machine.specs.Machine.{state_of, own_step, StepAs, IsKept, GoesOn};
 ghost use Rattle.bare_machine.specs.Settings.{bare};
+ghost use Rattle.bare_machine.specs.Events.{NoneComes};
 
+use crate::events::begin;
 use crate::finish::finish_step;
 use bare_mem::Cached;
 use board::{Board, Script};
@@ -37,19 +39,22 @@ pub struct BareMachine<C: Cache> {
 /// The bare machine keeps no text from the guest.
 pub static NO_TEXT: Option<Text<'static>> = None;
 
-/// One step, or the stop that it meets. Its state and its outcome take the places of the step's before. After a stop
+/// One step, or the stop that it meets. No event of the script comes before the step `next`. Its state and its outcome take the places of the step's before. After a stop
 /// the machine must not go on.
 #[tactic(auto, unfolding(machine_model::specs::Step::step_of))]
 #[inline(always)]
 pub fn step<C: Cache>(
     machine: &mut BareMachine<C>,
     script: &Script,
+    next: &mut u64,
     state: &mut StepState<'static>,
     worked: &mut Worked,
 ) -> Result<Seen, Stop>
     requires script { is_script script.now.list ≡ true }
     requires kept { IsKept machine.old.frames (state_of C.entries machine.old) }
     requires bound { machine.old.step < 2 ^ 40 }
+    requires none { NoneComes script.now.list machine.old.step next.old }
+    ensures none { NoneComes script.now.list (machine.old.step + 1) next.new }
     ensures step { (image : Image) → StepAs
         (own_step (bare image script.now.list machine.old.frames) (state_of C.entries machine.old))
         result machine.old.step (C.is_exact machine.old.kept.cache) (state_of C.entries machine.new) }
@@ -58,7 +63,7 @@ pub fn step<C: Cache>(
     ensures size { length machine.new.ram ≡ length machine.old.ram }
     ensures count { MatchResult result (λ _. machine.new.step ≡ machine.old.step + 1) (λ _. machine.new.step ≡ machine.old.step) }
 {
-    machine.board.begin(script, machine.step);
+    begin(&mut machine.board, script, machine.step, next);
     worked.cpu = machine.cpu;
     let result = tried(
         worked,

@@ -78,9 +78,10 @@ pub fn steps_to<C: Cache, O: Sink>(
 {
     let mut state = first_state(&NO_TEXT);
     let mut worked = Worked::at(&machine.cpu);
+    let mut next = 0;
     while machine.step < bound {
         let before = machine.step;
-        match step(machine, script, &mut state, &mut worked) {
+        match step(machine, script, &mut next, &mut state, &mut worked) {
             Err(stop) => return Ok(Pause::Stopped(stop)),
             Ok(seen) => match put_seen(before, seen, out) {
                 Ok(()) => {}

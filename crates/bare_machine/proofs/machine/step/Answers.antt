@@ -14,7 +14,7 @@ returns-in-Err-clause-step g c = λ image.
     let m = c.args.machine.now in
     let s = bare image c.args.script.now.list m.frames in
     let b = state_of g.C.Cache.entries m in
-    subst (λ (d : Board). stepped s (record b { board = d }) ≡ Halts c.in-Err.stop) c.begin.ensures (c.in-Err.ensures.comes image c.args.script.now.list b)
+    subst (λ (d : Board). stepped s (record b { board = d }) ≡ Halts c.in-Err.stop) c.begin.ensures.given (c.in-Err.ensures.comes image c.args.script.now.list b)
 
 pub returns-in-Ok-clause-step : goal.returns-in-Ok-clause-step
 unfolding step_of
@@ -24,7 +24,7 @@ returns-in-Ok-clause-step g c = λ image.
     let b = state_of g.C.Cache.entries m in
     let w = c.tried-result.new.worked in
     let x = space_at (λ _. g.C.Cache.entries m.kept.cache) c.tried-result.new.ram c.tried-result.new.state in
-    let is = subst (λ (d : Board). stepped s (record b { board = d }) ≡ went_as b w c.tried-result.new.board x) c.begin.ensures (c.in-Ok.ensures.comes image c.args.script.now.list b) in
+    let is = subst (λ (d : Board). stepped s (record b { board = d }) ≡ went_as b w c.tried-result.new.board x) c.begin.ensures.given (c.in-Ok.ensures.comes image c.args.script.now.list b) in
     subst (λ (r : steps.Result). Goes r m.step (whats w.seen) (g.C.Cache.is_exact m.kept.cache) (state_of g.C.Cache.entries c.finish_step.new.machine)) (sym is)
     (c.finish_step.ensures.goes (whats w.seen) (completed_by w.completed) (record x { set = dropping w.dropped x.set }) c.tried-result.ensures.memory refl)
 

@@ -1,9 +1,10 @@
-use Rattle.std.proofs.Common.{◌≡◌, ℕ, Bool, [], ◌∷◌, ◌++◌, refl, ◌∙◌, subst, arith}
+use Rattle.std.proofs.Common.{◌≡◌, ◌+◌, ◌≤◌, ℕ, Bool, [], ◌∷◌, ◌++◌, refl, ◌∙◌, subst, arith}
 use Rattle.machine_model.specs.Step.{Halts, step_of}
 use Rattle.machine_step.specs.Worked.{whats}
 use Rattle.bare_machine.specs.Machine.{state_of, Goes, Rests}
 use Rattle.bare_machine.specs.Settings.{bare}
 use Rattle.bare_machine.proofs.Going.{going_none, going_on, passes_here, passes_on, front_on, goes_further}
+use Rattle.bare_machine.proofs.NextEvents.{none_before, none_later}
 use Rattle.bare_machine.proofs.slice.steps_to.Goals as goal
 
 pub loop-machine-init : goal.loop-machine-init
@@ -12,6 +13,7 @@ loop-machine-init g c = record {
   goes_on = record { kept = c.requires.kept; frames = refl; size = refl; exact = refl };
   kept = refl;
   bound = c.requires.begun;
+  none = none_before c.args.script.now.list c.args.machine.now.step;
 }
 
 pub loop-machine-preserved : goal.loop-machine-preserved
@@ -28,6 +30,9 @@ loop-machine-preserved g c = record {
   goes_on = goes_further _ _ _ (goes_further _ _ _ c.loop-machine.invariant.goes_on c.in-Ok.ensures.goes_on) c.rest.ensures.goes_on;
   kept = c.in-Ok-put_seen.ensures.kept ∙ c.loop-machine.invariant.kept;
   bound = c.rest.ensures.within;
+  none =
+      let on : c.loop-machine.machine.step + 1 ≤ c.rest.new.machine.step = omega (arith, c.in-Ok.ensures.count, c.rest.ensures.later) in
+      none_later c.args.script.now.list (c.loop-machine.machine.step + 1) c.rest.new.machine.step c.step.new.next on c.in-Ok.ensures.none;
 }
 
 pub returns-in-Err-clause-slice : goal.returns-in-Err-clause-slice

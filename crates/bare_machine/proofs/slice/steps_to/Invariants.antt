@@ -2,6 +2,7 @@ use Rattle.std.proofs.Common.{◌≡◌, ◌-◌, ◌≤◌}
 use Rattle.image_check.specs.Image.{Image}
 use Rattle.bare_machine.specs.Machine.{state_of, GoesOn}
 use Rattle.bare_machine.specs.Settings.{bare}
+use Rattle.bare_machine.specs.Events.{NoneComes}
 use Rattle.bare_machine.proofs.Going.{Going}
 use Rattle.bare_machine.proofs.slice.steps_to.Given as goal
 
@@ -11,6 +12,7 @@ invariant-loop-machine g l = record {
   goes_on : GoesOn g.C.Cache.entries g.C.Cache.is_exact l.fn.machine l.machine;
   kept : g.O.Sink.faults l.out ≡ g.O.Sink.faults l.fn.out;
   bound : l.machine.step ≤ l.bound;
+  none : NoneComes l.script.list l.machine.step l.next;
 }
 
 abbrev pub decreases-loop-machine : goal.decreases-loop-machine
