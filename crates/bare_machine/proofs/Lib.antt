@@ -9,3 +9,4 @@ pub mod Joining
 pub mod Freshly
 pub mod FitBehind
 pub mod NextEvents
+pub mod OneStep

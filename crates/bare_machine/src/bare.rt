@@ -1,6 +1,6 @@
 //! The bare machine as a value that goes on in slices.
 
-ghost use Rattle.std.specs.Prelude.{◌≡◌, ◌+◌, ◌*◌, ◌%◌, ◌≤◌, ◌^◌, length, replicate, true, IfOk, OnOk, OnErr};
+ghost use Rattle.std.specs.Prelude.{◌≡◌, ◌+◌, ◌*◌, ◌%◌, ◌≤◌, ◌<◌, ◌^◌, length, replicate, true, IfOk, OnOk, OnErr};
 ghost use Rattle.std.specs.FinMap.{empty};
 ghost use Rattle.std.specs.Borrow.{sem, Lends};
 ghost use Rattle.bare_machine.specs.contracts.bare.Bare.{the_row};
@@ -9,12 +9,14 @@ ghost use Rattle.image_check.specs.Image.{Image};
 ghost use Rattle.pv_io.specs.Causes.{Rose};
 ghost use Rattle.machine_model.specs.Fit.{Fit};
 ghost use Rattle.bare_machine.specs.Machine.{state_of, IsKept, GoesOn};
+ghost use Rattle.bare_machine.specs.Once.{OnceAs};
 ghost use Rattle.bare_machine.specs.Settings.{bare};
 ghost use Rattle.bare_machine.specs.Slices.{SliceAs, OneStepAs};
 ghost use Rattle.run_trace.specs.Pauses.{IfReached};
 ghost use Rattle.bare_machine.specs.Starts.{StartedAs, with_cache};
 
 use crate::machine::BareMachine;
+use crate::once::{StepStop, Stepped, one_step};
 use crate::slice::take_steps;
 use bare_mem::Cached;
 use board::{Board, Script};
@@ -110,6 +112,24 @@ impl<C: Cache> Bare<C> {
         take_steps(&mut self.machine, script, k, out)
     }
 
+    /// Makes one step as a slice of one step does, and answers with what was seen and raised in it, in place of putting its
+    /// lines; or with the stop that it meets. After a stop the machine must not go on.
+    pub fn step_once(&mut self, script: &Script) -> Result<Stepped, StepStop>
+        requires script { is_script script.now.list ≡ true }
+        requires kept { IsKept self.old.frames (state_of C.entries self.old) }
+        requires bound { self.old.step < 2 ^ 40 }
+        ensures once { (image : Image) → OnceAs
+            (bare image script.now.list self.old.frames) (C.is_exact self.old.kept.cache)
+            (state_of C.entries self.old) (state_of C.entries self.new) result }
+        ensures few { IfOk result (λ done. done.items.len ≤ 2) }
+        ensures goes_on { OnOk result (GoesOn C.entries C.is_exact self.old self.new) }
+        ensures fit { Fit self.old.cpu → OnOk result (Fit self.new.cpu) }
+        ensures frames { self.new.frames ≡ self.old.frames }
+        ensures size { length self.new.ram ≡ length self.old.ram }
+    {
+        one_step(&mut self.machine, script)
+    }
+
     /// The processor.
     pub fn cpu(&self) -> &Cpu
         ensures { result.now ≡ self.now.cpu }
@@ -136,6 +156,13 @@ impl<C: Cache> Bare<C> {
         ensures { result.now ≡ self.now.ram }
     {
         &self.machine.ram
+    }
+
+    /// What keeps its translations.
+    pub fn cache(&self) -> &C
+        ensures { result.now ≡ self.now.kept.cache }
+    {
+        &self.machine.kept.cache
     }
 
     /// How many frames the memory has.

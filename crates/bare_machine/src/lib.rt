@@ -9,6 +9,7 @@ mod fresh;
 mod idle;
 mod laws;
 mod machine;
+mod once;
 mod run;
 mod slice;
 
@@ -17,4 +18,5 @@ pub use ending::end_run;
 pub use fresh::run_fresh;
 pub use laws::{each_course_is_a_run, parts_join};
 pub use machine::BareMachine;
+pub use once::{StepStop, Stepped};
 pub use run::{run_bare, run_on};

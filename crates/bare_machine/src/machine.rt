@@ -1,6 +1,7 @@
 //! The bare machine and one step of it.
 
-ghost use Rattle.std.specs.Prelude.{◌≡◌, ◌+◌, ◌*◌, ◌≤◌, ◌<◌, ◌^◌, length, true, IfOk, OnOk, MatchResult};
+ghost use Rattle.std.specs.Prelude.{◌≡◌, ◌+◌, ◌*◌, ◌≤◌, ◌<◌, ◌^◌, length, true, IfOk, OnOk, OnErr, MatchResult};
+ghost use Rattle.board.specs.Boards.{given};
 ghost use Rattle.board.specs.Scripts.{Events};
 ghost use Rattle.board.specs.ScriptForm.{is_script};
 ghost use Rattle.image_check.specs.Image.{Image};
@@ -8,8 +9,10 @@ ghost use Rattle.step_mem.specs.Changes.{AreWithin, changed};
 ghost use Rattle.step_mem.specs.Sound.{space};
 ghost use Rattle.machine_model.specs.State.{State};
 ghost use Rattle.machine_model.specs.Step.{stepped};
+ghost use Rattle.machine_step.specs.Raised.{raised_of, raised_from};
 ghost use Rattle.machine_step.specs.Worked.{ComesTo, IsDropped, answer_of};
 ghost use Rattle.bare_machine.specs.Machine.{state_of, own_step, StepAs, IsKept, GoesOn};
+ghost use Rattle.bare_machine.specs.Once.{taken_in};
 ghost use Rattle.bare_machine.specs.Settings.{bare};
 ghost use Rattle.bare_machine.specs.Events.{NoneComes};
 
@@ -62,6 +65,12 @@ pub fn step<C: Cache>(
     ensures frames { machine.new.frames ≡ machine.old.frames }
     ensures size { length machine.new.ram ≡ length machine.old.ram }
     ensures count { MatchResult result (λ _. machine.new.step ≡ machine.old.step + 1) (λ _. machine.new.step ≡ machine.old.step) }
+    ensures raised { (image : Image) → worked.new.raised ≡ raised_of (bare image script.now.list machine.old.frames)
+        (state_of C.entries machine.old) (C.entries machine.old.kept.cache) }
+    ensures stopped_cpu { OnErr result (machine.new.cpu ≡ machine.old.cpu) }
+    ensures stopped_kept { OnErr result (machine.new.kept ≡ machine.old.kept) }
+    ensures stopped_board { OnErr result (machine.new.board
+        ≡ taken_in machine.old.cpu (given machine.old.board script.now.list machine.old.step)) }
 {
     begin(&mut machine.board, script, machine.step, next);
     worked.cpu = machine.cpu;
@@ -102,6 +111,9 @@ fn tried<C: Cache>(
         (stepped (bare image script frames)
         (record b { cpu = worked.old.cpu; ram = ram.old; set = C.entries kept.now.cache; board = board.old }))
         b (answer_of result worked.new) board.new (space ⟦<Cached<C> as step_mem::Translations>⟧ kept.now ram.new state.new) }
+    ensures raised { (image : Image) (script : Events) (b : State) → worked.new.raised ≡ raised_from (bare image script frames)
+        (record b { cpu = worked.old.cpu; ram = ram.old; set = C.entries kept.now.cache; board = board.old }) }
+    ensures stopped { OnErr result (board.new ≡ taken_in worked.old.cpu board.old) }
 {
     let _len = ram.len();
     let guard = Guard {

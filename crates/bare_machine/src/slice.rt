@@ -49,7 +49,7 @@ pub fn take_steps<C: Cache, O: Sink>(
 }
 
 /// How many segment registers the processor has.
-fn segment_count(segments: &[Hidden; 4]) -> usize
+pub fn segment_count(segments: &[Hidden; 4]) -> usize
     ensures count { result ≡ length segments.now }
     ensures four { length segments.now ≡ 4 }
 {

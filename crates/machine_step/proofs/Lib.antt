@@ -4,3 +4,4 @@ pub mod Divided
 pub mod Fetched
 pub mod Used
 pub mod Rooted
+pub mod Raising

@@ -1,5 +1,5 @@
 -- What each instruction and each delivery does to CR0, CR3 and CR4, and what it drops.
-use Rattle.std.proofs.Common.{◌≡◌, ℕ, ◌/◌, ◌%◌, ◌<◌, ◌==◌, Bool, true, false, cond, not, ◌&&◌, ◌||◌, Option, Some, Ok, Err, Result, zero, suc, refl, sym, ap, subst, ◌∙◌, bit_and, bit_or, nat_lt, slice_set, arith}
+use Rattle.std.proofs.Common.{◌≡◌, ℕ, ◌/◌, ◌%◌, ◌<◌, ◌==◌, Bool, true, false, cond, not, ◌&&◌, ◌||◌, Option, Some, None, Ok, Err, Result, zero, suc, refl, sym, ap, subst, ◌∙◌, bit_and, bit_or, nat_lt, slice_set, arith}
 use Rattle.std.specs.Prelude.{IfOk}
 use Rattle.std.proofs.lemmas.Bool.{not-false, eqb-true, not-true, both_ways}
 use Rattle.ia32_types.specs.declared.insn.Insn.{Insn}
@@ -83,7 +83,7 @@ ends_on completed before after w k h = record {
 }
 
 -- what an instruction did, and then a step that goes on with it
-pub ended_roots : (completed : Completed) (before after : Cpu) (w : Worked) → RootsAs before (record { seen = seen.Nothing; completed = Some completed; cpu = after; dropped = drops.Nothing }) → EndsWith (Some completed) after w → RootsAs before w
+pub ended_roots : (completed : Completed) (before after : Cpu) (w : Worked) → RootsAs before (record { seen = seen.Nothing; completed = Some completed; cpu = after; dropped = drops.Nothing; raised = None }) → EndsWith (Some completed) after w → RootsAs before w
 ended_roots completed before after w h k =
     let is : is_load (completed_by w.completed) ≡ is_load (Some (completed_of completed)) = ap (λ (c : Option Completed). is_load (completed_by c)) k.completed_is in
     record {
@@ -152,11 +152,11 @@ module _ (completed : Completed) (cpu : Cpu) where
   stays_left : (e : SysEffect) (new : Cpu) → load ≡ false → KeepsRoots cpu new → is_all (dropped_by e) ≡ false → EffectRoots completed cpu e new
   stays_left (effects.Raise vector code) new none k some = k
   stays_left (effects.Stop stop) new none k some = tt
-  stays_left e new none k some = plain_roots cpu (record { seen = seen.Nothing; completed = Some completed; cpu = new; dropped = dropped_by e }) none k some
+  stays_left e new none k some = plain_roots cpu (record { seen = seen.Nothing; completed = Some completed; cpu = new; dropped = dropped_by e; raised = None }) none k some
 
   -- ---- MOV to a control register
 
-  of_0 : (new : Cpu) → load ≡ false → new.cr3 ≡ cpu.cr3 → new.cr4 ≡ cpu.cr4 → RootsAs cpu (record { seen = seen.Nothing; completed = Some completed; cpu = new; dropped = drops.Nothing })
+  of_0 : (new : Cpu) → load ≡ false → new.cr3 ≡ cpu.cr3 → new.cr4 ≡ cpu.cr4 → RootsAs cpu (record { seen = seen.Nothing; completed = Some completed; cpu = new; dropped = drops.Nothing; raised = None })
   of_0 new none k h = record {
     through = λ e. k;
     load = λ e. absurd (both_ways load none e);
@@ -164,7 +164,7 @@ module _ (completed : Completed) (cpu : Cpu) where
     page_size = λ ne. absurd (ne (ap (λ (x : ℕ). has x 0x10) h));
   }
 
-  of_3 : (new : Cpu) → load ≡ true → new.cr0 ≡ cpu.cr0 → new.cr4 ≡ cpu.cr4 → RootsAs cpu (record { seen = seen.Nothing; completed = Some completed; cpu = new; dropped = drops.All })
+  of_3 : (new : Cpu) → load ≡ true → new.cr0 ≡ cpu.cr0 → new.cr4 ≡ cpu.cr4 → RootsAs cpu (record { seen = seen.Nothing; completed = Some completed; cpu = new; dropped = drops.All; raised = None })
   of_3 new is a b = record {
     through = λ e. absurd (both_ways load e is);
     load = λ e. (refl, a, b);

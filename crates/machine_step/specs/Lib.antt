@@ -5,3 +5,4 @@ pub mod Worked
 pub mod Begun
 pub mod Laws
 pub mod Roots
+pub mod Raised

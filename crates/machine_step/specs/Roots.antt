@@ -1,5 +1,5 @@
 -- What a step does to the control registers by which pages are translated.
-use Rattle.std.specs.Prelude.{◌≡◌, true, false, Option, Some}
+use Rattle.std.specs.Prelude.{◌≡◌, true, false, Option, Some, None}
 use Rattle.descriptors.specs.Controls.{pse_of}
 use Rattle.descriptors.specs.declared.cpu.Cpu.{Cpu}
 use Rattle.sys_exec.specs.declared.effect.SysEffect.{SysEffect}
@@ -43,4 +43,4 @@ abbrev pub EffectRoots : Completed → Cpu → SysEffect → Cpu → Type 0
 EffectRoots completed before (effects.Raise vector code) after = KeepsRoots before after
 EffectRoots completed before (effects.Stop stop) after = Unit {0}
 EffectRoots completed before effect after =
-    RootsAs before (record { seen = seen.Nothing; completed = Some completed; cpu = after; dropped = dropped_by effect })
+    RootsAs before (record { seen = seen.Nothing; completed = Some completed; cpu = after; dropped = dropped_by effect; raised = None })

@@ -10,10 +10,11 @@ ghost use Rattle.machine_model.specs.UsedPages.{Uses, AtRefusal};
 ghost use Rattle.machine_step.specs.Over.{UsesBy};
 ghost use Rattle.machine_step.specs.Roots.{RootsAs, EndsWith};
 ghost use Rattle.machine_step.specs.Ruled.{IsRuled};
+ghost use Rattle.machine_step.specs.Raised.{raised_as, raised_by_int, raised_by_refusal};
 ghost use Rattle.machine_step.specs.Worked.{ComesTo, IsDropped, answer_of, completed_of, done_by};
 
 use crate::rules::{Rules, entered};
-use crate::worked::{Completed, Seen, Worked};
+use crate::worked::{Completed, Raised, Seen, Worked};
 use board::Board;
 use descriptors::Cpu;
 use event_entry::{Kind, NotDelivered};
@@ -41,6 +42,7 @@ pub fn deliver<M: StepMemory>(
     ensures board { board.new ≡ acknowledged board.old }
     ensures dropped { IfOk (answer_of result worked.new) (λ w. IsDropped w.dropped) }
     ensures roots { IfOk (answer_of result worked.new) (RootsAs worked.old.cpu) }
+    ensures raised { worked.new.raised ≡ worked.old.raised }
     ensures frame { M.frame mem.new ≡ M.frame mem.old }
 {
     works_use();
@@ -63,12 +65,14 @@ pub fn enter<M: StepMemory>(
 ) -> Result<(), Stop>
     requires pages { (M.space mem.old).pages ≤ 32 }
     requires no_load { is_load (Some (completed_of (done_by insn.now before.now))) ≡ false }
+    requires fresh { worked.old.raised ≡ None }
     ensures uses { OnOk result (UsesBy before.now (M.space mem.old) (M.space mem.new)) }
     ensures step { (m : Setting) (b : Whole) → IsRuled m rules.now → ComesTo
         (interrupts_by m (record b { cpu = before.now }) (completed_of (done_by insn.now before.now)) len vector
         (M.space mem.old)) b (answer_of result worked.new) b.board (M.space mem.new) }
     ensures dropped { IfOk (answer_of result worked.new) (λ w. IsDropped w.dropped) }
     ensures roots { IfOk (answer_of result worked.new) (RootsAs before.now) }
+    ensures raised { worked.new.raised ≡ raised_by_int before.now len vector (M.space mem.old) }
     ensures frame { M.frame mem.new ≡ M.frame mem.old }
 {
     works_use();
@@ -119,6 +123,7 @@ pub fn refuse_at<M: StepMemory>(
     refusal: Refusal,
 ) -> Result<(), Stop>
     requires pages { (M.space mem.old).pages ≤ 48 }
+    requires fresh { worked.old.raised ≡ None }
     ensures uses { OnOk result (UsesBy worked.old.cpu (M.space mem.old) (M.space mem.new)) }
     ensures goes_on { (s : Space) → AtRefusal (worked.old.cpu.cpl == 3) s refusal (M.space mem.old)
         → OnOk result (UsesBy worked.old.cpu s (M.space mem.new)) }
@@ -127,6 +132,7 @@ pub fn refuse_at<M: StepMemory>(
         b (answer_of result worked.new) b.board (M.space mem.new) }
     ensures dropped { IfOk (answer_of result worked.new) (λ w. IsDropped w.dropped) }
     ensures roots { IfOk (answer_of result worked.new) (RootsAs worked.old.cpu) }
+    ensures raised { worked.new.raised ≡ raised_by_refusal refusal }
     ensures frame { M.frame mem.new ≡ M.frame mem.old }
 {
     match refusal {
@@ -154,16 +160,13 @@ pub fn raise<M: StepMemory>(
         b (answer_of result worked.new) b.board (M.space mem.new) }
     ensures dropped { IfOk (answer_of result worked.new) (λ w. IsDropped w.dropped) }
     ensures ends { IfOk (answer_of result worked.new) (EndsWith None worked.old.cpu) }
+    ensures raised { worked.new.raised ≡ raised_as vector code }
     ensures frame { M.frame mem.new ≡ M.frame mem.old }
 {
     works_use();
-    match event_entry::deliver(
-        &mut worked.cpu,
-        mem,
-        vector,
-        Kind::Raised,
-        code_of(vector, code),
-    ) {
+    let code = code_of(vector, code);
+    worked.raised = Some(Raised { vector, code });
+    match event_entry::deliver(&mut worked.cpu, mem, vector, Kind::Raised, code) {
         Ok(()) => entered(rules, Seen::Nothing, None, worked),
         Err(refused) => Err(stop_of(refused)),
     }

@@ -1,6 +1,6 @@
 //! The outcome of an instruction that was fetched.
 
-ghost use Rattle.std.specs.Prelude.{◌≡◌, ◌==◌, ◌≤◌, List, ℕ, IfOk, OnOk, OnErr, Ok, Some};
+ghost use Rattle.std.specs.Prelude.{◌≡◌, ◌==◌, ◌≤◌, List, ℕ, IfOk, OnOk, OnErr, Ok, Some, None};
 ghost use Rattle.paging.specs.Space.{Space};
 ghost use Rattle.ia32_rows.specs.Spells.{Spells};
 ghost use Rattle.sys_exec.specs.Asked.{IsAsked};
@@ -9,6 +9,7 @@ ghost use Rattle.machine_model.specs.Instruction.{instructed};
 ghost use Rattle.machine_model.specs.Step.{by_decoded, after_instruction, after_effect};
 ghost use Rattle.machine_step.specs.Begun.{AtEffect};
 ghost use Rattle.machine_step.specs.Over.{UsesBy};
+ghost use Rattle.machine_step.specs.Raised.{raised_by_effect, raised_by_outcome, raised_by_op};
 ghost use Rattle.machine_step.specs.Roots.{RootsAs, EffectRoots};
 ghost use Rattle.machine_step.specs.Ruled.{IsRuled};
 ghost use Rattle.machine_step.specs.Worked.{ComesTo, IsDropped, answer_of, completed_of, done_by};
@@ -64,6 +65,7 @@ pub fn carry_out_at<M: StepMemory>(
 ) -> Result<(), Stop>
     requires spelled { (bytes : List ℕ) × Spells bytes insn.now }
     requires pages { (M.space mem.old).pages ≤ 8 }
+    requires fresh { worked.old.raised ≡ None }
     ensures uses { OnOk result (UsesBy worked.old.cpu (M.space mem.old) (M.space mem.new)) }
     ensures step { (m : Setting) (b : Whole) → IsRuled m rules.now → ComesTo
         (by_decoded m (record b { cpu = worked.old.cpu; board = board.old }) (Decoded.Insn insn.now len)
@@ -71,6 +73,7 @@ pub fn carry_out_at<M: StepMemory>(
     ensures stopped { OnErr result (board.new ≡ board.old) }
     ensures dropped { IfOk (answer_of result worked.new) (λ w. IsDropped w.dropped) }
     ensures roots { IfOk (answer_of result worked.new) (RootsAs worked.old.cpu) }
+    ensures raised { worked.new.raised ≡ raised_by_op insn.now.op worked.old.cpu insn.now len (M.space mem.old) }
     ensures frame { M.frame mem.new ≡ M.frame mem.old }
 {
     let before = worked.cpu;
@@ -97,6 +100,7 @@ fn perform<M: StepMemory>(
     requires spelled { (bytes : List ℕ) × Spells bytes insn.now }
     requires pages { (M.space mem.old).pages ≤ 8 }
     requires same { worked.old.cpu ≡ before.now }
+    requires fresh { worked.old.raised ≡ None }
     ensures uses { OnOk result (UsesBy before.now (M.space mem.old) (M.space mem.new)) }
     ensures step { (m : Setting) (b : Whole) → IsRuled m rules.now → ComesTo
         (after_instruction m (record b { cpu = before.now; board = board.old }) (completed_of (done_by insn.now before.now))
@@ -105,6 +109,7 @@ fn perform<M: StepMemory>(
     ensures stopped { OnErr result (board.new ≡ board.old) }
     ensures dropped { IfOk (answer_of result worked.new) (λ w. IsDropped w.dropped) }
     ensures roots { IfOk (answer_of result worked.new) (RootsAs before.now) }
+    ensures raised { worked.new.raised ≡ raised_by_outcome before.now (instructed insn.now len before.now (M.space mem.old)) }
     ensures frame { M.frame mem.new ≡ M.frame mem.old }
 {
     works_use();
@@ -125,6 +130,7 @@ fn follow<M: StepMemory>(
     requires pages { (M.space mem.old).pages ≤ 48 }
     requires asked { IsAsked effect }
     requires roots { EffectRoots (done_by insn.now before.now) before.now effect worked.old.cpu }
+    requires fresh { worked.old.raised ≡ None }
     ensures uses { (s : Space) → AtEffect (before.now.cpl == 3) s effect (M.space mem.old)
         → OnOk result (UsesBy before.now s (M.space mem.new)) }
     ensures step { (m : Setting) (b : Whole) → IsRuled m rules.now → ComesTo
@@ -134,6 +140,7 @@ fn follow<M: StepMemory>(
     ensures stopped { OnErr result (board.new ≡ board.old) }
     ensures dropped { IfOk (answer_of result worked.new) (λ w. IsDropped w.dropped) }
     ensures roots { IfOk (answer_of result worked.new) (RootsAs before.now) }
+    ensures raised { worked.new.raised ≡ raised_by_effect effect }
     ensures frame { M.frame mem.new ≡ M.frame mem.old }
 {
     match effect {
@@ -158,6 +165,7 @@ fn completes(insn: &Insn, before: &Cpu, worked: &mut Worked, dropped: Dropped) -
       completed = Some (done_by insn.now before.now);
       cpu = worked.old.cpu;
       dropped = dropped;
+      raised = worked.old.raised;
     } }
 {
     worked.complete(insn, before, Seen::Nothing, dropped);

@@ -19,4 +19,4 @@ pub use laws::plain_divides;
 pub use resting::resting_steps;
 pub use rules::Rules;
 pub use stepping::{NO_BYTES, begin_again, first_state, interrupt, step_again, step_in};
-pub use worked::{Completed, Dropped, Seen, Worked, items_of, put_seen};
+pub use worked::{Completed, Dropped, Raised, Seen, Worked, items_of, put_seen};

@@ -32,6 +32,7 @@ pub fn read(
     ensures stopped { OnErr result (board.new ≡ board.old) }
     ensures dropped { IfOk (answer_of result worked.new) (λ w. IsDropped w.dropped) }
     ensures ends { IfOk (answer_of result worked.new) (EndsWith (Some (done_by insn.now before.now)) worked.old.cpu) }
+    ensures raised { worked.new.raised ≡ worked.old.raised }
 {
     match board.port_in(port, wide) {
         PortRead::Stop => Err(Stop::DeviceUse),
@@ -89,6 +90,7 @@ pub fn write(
     ensures stopped { OnErr result (board.new ≡ board.old) }
     ensures dropped { IfOk (answer_of result worked.new) (λ w. IsDropped w.dropped) }
     ensures ends { IfOk (answer_of result worked.new) (EndsWith (Some (done_by insn.now before.now)) worked.old.cpu) }
+    ensures raised { worked.new.raised ≡ worked.old.raised }
 {
     let item = out_item(port, wide, value);
     let seen = match board.port_out(port, wide, value) {

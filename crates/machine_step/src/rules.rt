@@ -80,6 +80,7 @@ pub fn entered(
         (steps.entered m (whats seen) (completed_by completed) b worked.old.cpu board s) b (answer_of result worked.new) board s }
     ensures dropped { IfOk (answer_of result worked.new) (λ w. IsDropped w.dropped) }
     ensures ends { IfOk (answer_of result worked.new) (EndsWith completed worked.old.cpu) }
+    ensures raised { worked.new.raised ≡ worked.old.raised }
 {
     let well = stands_well(rules, &worked.cpu);
     if well {
@@ -99,6 +100,7 @@ pub fn ended(rules: &Rules, insn: &Insn, before: &Cpu, worked: &mut Worked) -> R
         b (answer_of result worked.new) b.board s }
     ensures dropped { IfOk (answer_of result worked.new) (λ w. IsDropped w.dropped) }
     ensures ends { IfOk (answer_of result worked.new) (EndsWith (Some (done_by insn.now before.now)) worked.old.cpu) }
+    ensures raised { worked.new.raised ≡ worked.old.raised }
 {
     let may = may_leave(rules, before, &worked.cpu);
     if may {

@@ -1,6 +1,6 @@
 //! One step.
 
-ghost use Rattle.std.specs.Prelude.{◌≡◌, ◌*◌, ◌≤◌, length, false, IfOk, OnOk, OnErr};
+ghost use Rattle.std.specs.Prelude.{◌≡◌, ◌*◌, ◌≤◌, length, false, None, IfOk, OnOk, OnErr};
 ghost use Rattle.step_mem.specs.Changes.{AreWithin};
 ghost use Rattle.step_mem.specs.Guard.{IsLaid};
 ghost use Rattle.step_mem.specs.Shown.{hidden};
@@ -11,6 +11,7 @@ ghost use Rattle.machine_model.specs.Step.{stepped, interrupt_of};
 ghost use Rattle.machine_model.specs.Step as steps;
 ghost use Rattle.machine_step.specs.Begun.{control_of, taken_by};
 ghost use Rattle.machine_step.specs.Over.{first_space, under, begins_over, stepped_in, UsesBy};
+ghost use Rattle.machine_step.specs.Raised.{raised_at_work, raised_in, raised_from};
 ghost use Rattle.machine_step.specs.Roots.{RootsAs};
 ghost use Rattle.machine_step.specs.Ruled.{IsRuled};
 ghost use Rattle.machine_step.specs.Worked.{ComesTo, IsDropped, answer_of};
@@ -56,6 +57,9 @@ pub fn step_again<'g, B: Translations>(
     ensures stopped { OnErr result (board.new ≡ taken_by (interrupt_of worked.old.cpu board.old) board.old) }
     ensures dropped { IfOk (answer_of result worked.new) (λ w. IsDropped w.dropped) }
     ensures roots { IfOk (answer_of result worked.new) (RootsAs worked.old.cpu) }
+    ensures raised { (m : Setting) (b : Whole) → IsRuled (under m guard.entry frames) rules.now → worked.new.raised
+        ≡ raised_from (under m guard.entry frames)
+        (begins_over B.Translations kept.now ram.old guard.entry frames (record b { cpu = worked.old.cpu; board = board.old })) }
     ensures stays { FetchesIn (begun (control_of frames worked.old.cpu) guard.entry) state.new ram.old ram.new }
 {
     begin_again(&worked.cpu, ram, kept, frames, guard, state);
@@ -180,6 +184,8 @@ fn step_at<B: Translations>(
     ensures stopped { OnErr result (board.new ≡ taken_by (interrupt_of worked.old.cpu board.old) board.old) }
     ensures dropped { IfOk (answer_of result worked.new) (λ w. IsDropped w.dropped) }
     ensures roots { IfOk (answer_of result worked.new) (RootsAs worked.old.cpu) }
+    ensures raised { (m : Setting) → IsRuled m rules.now → worked.new.raised
+        ≡ raised_in m worked.old.cpu board.old (space B.Translations kept.now ram.old state.old) }
     ensures stays { FetchesIn state.old state.new ram.old ram.new }
 {
     step_over(rules, worked, board, &mut Memory { ram, kept, state })
@@ -200,10 +206,13 @@ fn step_over<M: StepMemory>(
     ensures stopped { OnErr result (board.new ≡ taken_by (interrupt_of worked.old.cpu board.old) board.old) }
     ensures dropped { IfOk (answer_of result worked.new) (λ w. IsDropped w.dropped) }
     ensures roots { IfOk (answer_of result worked.new) (RootsAs worked.old.cpu) }
+    ensures raised { (m : Setting) → IsRuled m rules.now → worked.new.raised
+        ≡ raised_in m worked.old.cpu board.old (M.space mem.old) }
     ensures frame { M.frame mem.new ≡ M.frame mem.old }
 {
     let taken = interrupt(&worked.cpu, board);
     worked.cpu.held = false;
+    worked.raised = None;
     match taken {
         None => work(rules, worked, board, mem),
         Some(vector) => deliver(rules, worked, board, mem, vector),
@@ -223,7 +232,7 @@ pub fn interrupt(cpu: &Cpu, board: &Board) -> Option<u8>
 }
 
 /// A halted processor does nothing, and another does the instruction at EIP.
-#[tactic(auto, unfolding(machine_model::specs::Step::worked))]
+#[tactic(auto, unfolding(machine_model::specs::Step::worked, crate::specs::Raised::raised_at_work))]
 fn work<M: StepMemory>(
     rules: &Rules,
     worked: &mut Worked,
@@ -231,6 +240,7 @@ fn work<M: StepMemory>(
     mem: &mut M,
 ) -> Result<(), Stop>
     requires pages { (M.space mem.old).pages ≡ 0 }
+    requires fresh { worked.old.raised ≡ None }
     ensures uses { OnOk result (UsesBy worked.old.cpu (M.space mem.old) (M.space mem.new)) }
     ensures step { (m : Setting) (b : Whole) → IsRuled m rules.now → ComesTo
         (steps.worked m (record b { cpu = worked.old.cpu; board = board.old }) (M.space mem.old))
@@ -238,6 +248,8 @@ fn work<M: StepMemory>(
     ensures stopped { OnErr result (board.new ≡ board.old) }
     ensures dropped { IfOk (answer_of result worked.new) (λ w. IsDropped w.dropped) }
     ensures roots { IfOk (answer_of result worked.new) (RootsAs worked.old.cpu) }
+    ensures raised { (m : Setting) → IsRuled m rules.now → worked.new.raised
+        ≡ raised_at_work m worked.old.cpu (M.space mem.old) }
     ensures frame { M.frame mem.new ≡ M.frame mem.old }
 {
     if worked.cpu.halted {

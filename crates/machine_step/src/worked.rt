@@ -39,14 +39,22 @@ pub struct Completed {
     pub user: bool,
 }
 
-/// A step that went: what was seen, the instruction that completed, the processor, and what is dropped. What it changed
-/// of the translations, and the pages that it went through, stand in the step's state.
+/// An exception's vector that an instruction raised, and the error code that its handler finds: vectors 11 to 14 have one.
+#[derive(Clone, Copy)]
+pub struct Raised {
+    pub vector: u8,
+    pub code: Option<u32>,
+}
+
+/// A step that went: what was seen, the instruction that completed, the processor, what is dropped, and what an instruction
+/// raised. What it changed of the translations, and the pages that it went through, stand in the step's state.
 #[derive(Clone, Copy)]
 pub struct Worked {
     pub seen: Seen,
     pub completed: Option<Completed>,
     pub cpu: Cpu,
     pub dropped: Dropped,
+    pub raised: Option<Raised>,
 }
 
 impl Completed {
@@ -65,19 +73,26 @@ impl Completed {
 impl Worked {
     /// A place in which steps are recorded, where nothing is recorded yet but the processor.
     pub fn at(cpu: &Cpu) -> Worked
-        ensures { result ≡ record { seen = Seen.Nothing; completed = None; cpu = cpu.now; dropped = Dropped.Nothing } }
+        ensures { result ≡ record { seen = Seen.Nothing; completed = None; cpu = cpu.now; dropped = Dropped.Nothing; raised = None } }
     {
         Worked {
             seen: Seen::Nothing,
             completed: None,
             cpu: *cpu,
             dropped: Dropped::Nothing,
+            raised: None,
         }
     }
 
     /// An instruction completed that this processor began.
     pub fn complete(&mut self, insn: &Insn, before: &Cpu, seen: Seen, dropped: Dropped)
-        ensures { self.new ≡ record { seen = seen; completed = Some (done_by insn.now before.now); cpu = self.old.cpu; dropped = dropped } }
+        ensures { self.new ≡ record {
+          seen = seen;
+          completed = Some (done_by insn.now before.now);
+          cpu = self.old.cpu;
+          dropped = dropped;
+          raised = self.old.raised;
+        } }
     {
         self.seen = seen;
         self.completed = Some(Completed::of(insn, before));

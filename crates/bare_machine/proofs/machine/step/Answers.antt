@@ -6,6 +6,8 @@ use Rattle.machine_model.specs.Step.{step_of, stepped, Halts}
 use Rattle.machine_step.specs.Worked.{whats, completed_by, dropping, went_as}
 use Rattle.bare_machine.specs.Machine.{state_of, Goes}
 use Rattle.bare_machine.specs.Settings.{bare}
+use Rattle.machine_step.specs.Raised.{raised_of, raised_from}
+use Rattle.bare_machine.specs.Once.{taken_in}
 use Rattle.bare_machine.proofs.machine.step.Goals as goal
 
 pub returns-in-Err-clause-step : goal.returns-in-Err-clause-step
@@ -38,3 +40,23 @@ returns-in-Ok-clause-frames g c = c.finish_step.ensures.goes_on.frames
 
 pub returns-in-Ok-clause-count : goal.returns-in-Ok-clause-count
 returns-in-Ok-clause-count g c = c.finish_step.ensures.count
+
+pub returns-in-Err-clause-raised : goal.returns-in-Err-clause-raised
+unfolding raised_of
+returns-in-Err-clause-raised g c = λ image.
+    let m = c.args.machine.now in
+    let s = bare image c.args.script.now.list m.frames in
+    let b = state_of g.C.Cache.entries m in
+    subst (λ (d : Board). c.tried-result.new.worked.raised ≡ raised_from s (record b { board = d })) c.begin.ensures.given (c.tried-result.ensures.raised image c.args.script.now.list b)
+
+pub returns-in-Ok-clause-raised : goal.returns-in-Ok-clause-raised
+unfolding raised_of
+returns-in-Ok-clause-raised g c = λ image.
+    let m = c.args.machine.now in
+    let s = bare image c.args.script.now.list m.frames in
+    let b = state_of g.C.Cache.entries m in
+    subst (λ (d : Board). c.tried-result.new.worked.raised ≡ raised_from s (record b { board = d })) c.begin.ensures.given (c.tried-result.ensures.raised image c.args.script.now.list b)
+
+pub returns-in-Err-clause-stopped_board : goal.returns-in-Err-clause-stopped_board
+returns-in-Err-clause-stopped_board g c =
+    subst (λ (d : Board). c.tried-result.new.board ≡ taken_in c.args.machine.now.cpu d) c.begin.ensures.given c.in-Err.ensures.stopped

@@ -19,3 +19,6 @@ returns-clause-size g c =
     let room = c.step_again.ensures.sound.frames_in in
     let before = c.requires.ram in
     omega (arith, e, length-drop n c.step_again.new.ram, length-drop n c.args.ram.now, room, frames, before)
+
+pub returns-clause-raised : goal.returns-clause-raised
+returns-clause-raised g c = λ image script b. c.step_again.ensures.raised (bare image script c.args.frames) b (record { has = refl; over = tt })

@@ -1,4 +1,4 @@
-use Rattle.std.proofs.Common.{Some, None, refl, sym, subst}
+use Rattle.std.proofs.Common.{Some, None, refl, sym, subst, ap, ◌∙◌}
 use Rattle.descriptors.specs.declared.cpu.Cpu.{Cpu}
 use Rattle.event_entry.specs.declared.refusal.NotDelivered.{NotDelivered}
 use Rattle.paging.specs.Work.{Outcome}
@@ -9,6 +9,7 @@ use Rattle.std.specs.Prelude.{Bool, ◌==◌}
 use Rattle.machine_step.specs.Roots.{RootsAs, EndsWith, KeepsRoots}
 use Rattle.sys_exec.specs.Operand.{past}
 use Rattle.machine_step.proofs.Rooted.{if_ok_as, ends_on, kept_roots, entered_keeps}
+use Rattle.machine_step.specs.Raised.{raised_by_gate}
 use Rattle.machine_step.proofs.delivery.enter.Goals as goal
 
 pub returns-in-Err-Privilege-clause-step : goal.returns-in-Err-Privilege-clause-step
@@ -53,3 +54,12 @@ pub returns-in-Err-Privilege-clause-roots : goal.returns-in-Err-Privilege-clause
 returns-in-Err-Privilege-clause-roots g c =
     let cpu = c.args.before.now in
     if_ok_as (EndsWith None cpu) (RootsAs cpu) (answer_of c.raise.result c.raise.new.worked) (λ w k. kept_roots None cpu w refl k) c.raise.ensures.ends
+
+pub returns-in-Ok-clause-raised : goal.returns-in-Ok-clause-raised
+returns-in-Ok-clause-raised g c =
+    c.entered.ensures.raised ∙ (c.requires.fresh ∙ sym (ap (raised_by_gate c.args.vector) (rw (c.in-Ok.is, c.past-worked.ensures) at c.deliver.ensures.gives)))
+
+pub returns-in-Err-Privilege-clause-raised : goal.returns-in-Err-Privilege-clause-raised
+returns-in-Err-Privilege-clause-raised g c =
+    rw c.from.ensures at c.raise.ensures.raised
+    ∙ sym (ap (raised_by_gate c.args.vector) (rw (c.in-Err-Privilege.field-0-is, c.past-worked.ensures) at c.in-Err-Privilege.ensures.gives))

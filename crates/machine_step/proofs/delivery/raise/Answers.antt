@@ -13,7 +13,7 @@ pub returns-in-Ok-clause-step : goal.returns-in-Ok-clause-step
 returns-in-Ok-clause-step g c = λ m b k.
     let s = g.M.GuestMem.space c.deliver.new.mem in
     subst (λ (o : Outcome NotDelivered Cpu). ComesTo (after_delivery m [] b b.board o) b (answer_of c.entered.result c.entered.new.worked) b.board s)
-    (sym (rw (c.in-Ok.is, c.code_of.ensures) at c.deliver.ensures.gives)) (c.entered.ensures.step m b b.board s k)
+    (sym (rw (c.in-Ok.is, c.code_of-code.ensures) at c.deliver.ensures.gives)) (c.entered.ensures.step m b b.board s k)
 
 pub returns-in-Ok-clause-uses : goal.returns-in-Ok-clause-uses
 returns-in-Ok-clause-uses g c = λ user.

@@ -1,9 +1,10 @@
-use Rattle.std.proofs.Common.{◌&&◌, refl, sym, ap, subst}
+use Rattle.std.proofs.Common.{◌≡◌, ◌&&◌, refl, sym, ap, subst}
 use Rattle.ia32_types.specs.declared.insn.Op.{Op}
 use Rattle.machine_model.specs.Step.{by_op}
 use Rattle.machine_step.specs.Worked.{ComesTo, answer_of}
 use Rattle.machine_step.proofs.Used.{on_err}
 use Rattle.machine_model.specs.Taken.{is_write, is_control_3}
+use Rattle.machine_step.specs.Raised.{raised_by_op}
 use Rattle.machine_step.proofs.instruction.carry_out_at.Goals as goal
 
 pub returns-in-Int-clause-step : goal.returns-in-Int-clause-step
@@ -29,3 +30,13 @@ returns-in-Int-clause-stopped g c = on_err c.enter.result refl
 
 pub returns-in-Int3-clause-stopped : goal.returns-in-Int3-clause-stopped
 returns-in-Int3-clause-stopped g c = on_err c.enter-in-Int3.result refl
+
+pub returns-in-Int-clause-raised : goal.returns-in-Int-clause-raised
+returns-in-Int-clause-raised g c =
+    let a = c.args in
+    subst (λ (o : Op). c.enter.new.worked.raised ≡ raised_by_op o a.worked.now.cpu a.insn.now a.len (g.M.GuestMem.space a.mem.now)) (sym c.in-Int.is) c.enter.ensures.raised
+
+pub returns-in-Int3-clause-raised : goal.returns-in-Int3-clause-raised
+returns-in-Int3-clause-raised g c =
+    let a = c.args in
+    subst (λ (o : Op). c.enter-in-Int3.new.worked.raised ≡ raised_by_op o a.worked.now.cpu a.insn.now a.len (g.M.GuestMem.space a.mem.now)) (sym c.in-Int3.is) c.enter-in-Int3.ensures.raised

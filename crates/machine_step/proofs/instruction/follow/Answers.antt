@@ -68,7 +68,7 @@ returns-in-PortOut-clause-roots g c =
     (λ w k. ended_roots (done_by c.args.insn.now c.args.before.now) before c.args.worked.now.cpu w (rw c.in-PortOut.is at c.requires.roots) k) c.write.ensures.ends
 
 pub returns-in-Halted-clause-roots : goal.returns-in-Halted-clause-roots
-returns-in-Halted-clause-roots g c = rw (c.completes.ensures.went, c.completes.ensures.told) (rw c.in-Halted.is at c.requires.roots)
+returns-in-Halted-clause-roots g c = rw (c.completes.ensures.went, c.completes.ensures.told, c.requires.fresh) (rw c.in-Halted.is at c.requires.roots)
 
 pub returns-in-Halted-clause-step : goal.returns-in-Halted-clause-step
 returns-in-Halted-clause-step g c = λ m b k. rw (c.in-Halted.is, c.completes.ensures.went, c.completes.ensures.told) refl
@@ -77,7 +77,7 @@ pub returns-in-Halted-clause-dropped : goal.returns-in-Halted-clause-dropped
 returns-in-Halted-clause-dropped g c = rw (c.completes.ensures.went, c.completes.ensures.told) (rw c.in-Halted.is at c.requires.asked)
 
 pub returns-in-DropPage-clause-roots : goal.returns-in-DropPage-clause-roots
-returns-in-DropPage-clause-roots g c = rw (c.completes-in-DropPage.ensures.went, c.completes-in-DropPage.ensures.told) (rw c.in-DropPage.is at c.requires.roots)
+returns-in-DropPage-clause-roots g c = rw (c.completes-in-DropPage.ensures.went, c.completes-in-DropPage.ensures.told, c.requires.fresh) (rw c.in-DropPage.is at c.requires.roots)
 
 pub returns-in-DropPage-clause-step : goal.returns-in-DropPage-clause-step
 returns-in-DropPage-clause-step g c = λ m b k. rw (c.in-DropPage.is, c.completes-in-DropPage.ensures.went, c.completes-in-DropPage.ensures.told) refl
@@ -86,7 +86,7 @@ pub returns-in-DropPage-clause-dropped : goal.returns-in-DropPage-clause-dropped
 returns-in-DropPage-clause-dropped g c = rw (c.completes-in-DropPage.ensures.went, c.completes-in-DropPage.ensures.told) (rw c.in-DropPage.is at c.requires.asked)
 
 pub returns-in-DropDir-clause-roots : goal.returns-in-DropDir-clause-roots
-returns-in-DropDir-clause-roots g c = rw (c.completes-in-DropDir.ensures.went, c.completes-in-DropDir.ensures.told) (rw c.in-DropDir.is at c.requires.roots)
+returns-in-DropDir-clause-roots g c = rw (c.completes-in-DropDir.ensures.went, c.completes-in-DropDir.ensures.told, c.requires.fresh) (rw c.in-DropDir.is at c.requires.roots)
 
 pub returns-in-DropDir-clause-step : goal.returns-in-DropDir-clause-step
 returns-in-DropDir-clause-step g c = λ m b k. rw (c.in-DropDir.is, c.completes-in-DropDir.ensures.went, c.completes-in-DropDir.ensures.told) refl
@@ -95,7 +95,7 @@ pub returns-in-DropDir-clause-dropped : goal.returns-in-DropDir-clause-dropped
 returns-in-DropDir-clause-dropped g c = rw (c.completes-in-DropDir.ensures.went, c.completes-in-DropDir.ensures.told) (rw c.in-DropDir.is at c.requires.asked)
 
 pub returns-in-DropAll-clause-roots : goal.returns-in-DropAll-clause-roots
-returns-in-DropAll-clause-roots g c = rw (c.completes-in-DropAll.ensures.went, c.completes-in-DropAll.ensures.told) (rw c.in-DropAll.is at c.requires.roots)
+returns-in-DropAll-clause-roots g c = rw (c.completes-in-DropAll.ensures.went, c.completes-in-DropAll.ensures.told, c.requires.fresh) (rw c.in-DropAll.is at c.requires.roots)
 
 pub returns-in-DropAll-clause-step : goal.returns-in-DropAll-clause-step
 returns-in-DropAll-clause-step g c = λ m b k. rw (c.in-DropAll.is, c.completes-in-DropAll.ensures.went, c.completes-in-DropAll.ensures.told) refl

@@ -1,4 +1,4 @@
-use Rattle.std.proofs.Common.{refl, sym, subst}
+use Rattle.std.proofs.Common.{refl, sym, subst, ap, ◌∙◌}
 use Rattle.descriptors.specs.declared.cpu.Cpu.{Cpu}
 use Rattle.paging.specs.Space.{Space}
 use Rattle.sys_exec.specs.declared.effect.SysEffect.{SysEffect}
@@ -7,6 +7,7 @@ use Rattle.machine_step.specs.Worked.{ComesTo, answer_of, completed_of, done_by}
 use Rattle.machine_step.proofs.Used.{told_uses}
 use Rattle.std.specs.Prelude.{◌==◌}
 use Rattle.machine_step.proofs.Rooted.{left, told_roots}
+use Rattle.machine_step.specs.Raised.{raised_by_effect}
 use Rattle.machine_step.proofs.instruction.perform.Goals as goal
 
 pub returns-clause-step : goal.returns-clause-step
@@ -28,3 +29,7 @@ follow-requires-clause-roots g c =
     let a = c.args in
     let done = done_by a.insn.now a.before.now in
     told_roots done a.before.now _ _ _ _ (rw c.requires.same at c.execute-effect.ensures.told) (left done a.before.now a.insn.now a.len _ refl)
+
+pub returns-clause-raised : goal.returns-clause-raised
+returns-clause-raised g c =
+    c.follow.ensures.raised ∙ sym (ap (λ (told : SysEffect × Cpu × Space). raised_by_effect told.0) (rw c.requires.same at c.execute-effect.ensures.told))

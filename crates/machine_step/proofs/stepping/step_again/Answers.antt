@@ -1,4 +1,4 @@
-use Rattle.std.proofs.Common.{subst}
+use Rattle.std.proofs.Common.{◌≡◌, false, subst}
 use Rattle.paging.specs.Space.{Space}
 use Rattle.step_mem.specs.Guard.{mode_of}
 use Rattle.step_mem.specs.Shown.{shown}
@@ -7,6 +7,7 @@ use Rattle.machine_model.specs.Step.{by_interrupt, interrupt_of, unheld}
 use Rattle.machine_step.specs.Worked.{ComesTo, answer_of}
 use Rattle.std.specs.Prelude.{IfOk, ◌==◌}
 use Rattle.machine_model.specs.UsedPages.{Uses}
+use Rattle.machine_step.specs.Raised.{raised_unless}
 use Rattle.machine_step.proofs.stepping.step_again.Goals as goal
 
 pub returns-clause-step : goal.returns-clause-step
@@ -20,3 +21,10 @@ returns-clause-step g c = λ s b k.
 pub returns-clause-uses : goal.returns-clause-uses
 returns-clause-uses g c =
     subst (λ (x : Space). IfOk c.step_at.result (λ _. Uses (c.args.worked.now.cpu.cpl == 3) x (space g.B.Translations c.args.kept.now c.step_at.new.ram c.step_at.new.state))) c.begin_again.ensures.space c.step_at.ensures.uses
+
+pub returns-clause-raised : goal.returns-clause-raised
+returns-clause-raised g c = λ s b k.
+    let a = c.args in
+    let m = record s { mode = mode_of a.guard; frames = a.frames } in
+    subst (λ (x : Space). c.step_at.new.worked.raised ≡ raised_unless m (interrupt_of a.worked.now.cpu a.board.now) (record a.worked.now.cpu { held = false }) x)
+    c.begin_again.ensures.space (c.step_at.ensures.raised m k)

@@ -1,10 +1,11 @@
-use Rattle.std.proofs.Common.{ℕ, Option, false, subst, sym, ap, ◌∙◌}
+use Rattle.std.proofs.Common.{◌≡◌, ℕ, Option, false, subst, sym, ap, ◌∙◌}
 use Rattle.machine_model.specs.Step.{by_interrupt, unheld}
 use Rattle.machine_step.specs.Begun.{taken_by}
 use Rattle.machine_step.specs.Roots.{RootsAs}
 use Rattle.machine_step.specs.Worked.{ComesTo, answer_of}
 use Rattle.machine_step.proofs.Rooted.{if_ok_as, unheld_roots}
 use Rattle.machine_step.proofs.Used.{on_err}
+use Rattle.machine_step.specs.Raised.{raised_unless}
 use Rattle.machine_step.proofs.stepping.step_over.Goals as goal
 
 pub returns-in-None-clause-step : goal.returns-in-None-clause-step
@@ -36,3 +37,15 @@ returns-in-None-clause-stopped g c = rw (sym c.in-None.ensures) c.work.ensures.s
 
 pub returns-in-Some-clause-stopped : goal.returns-in-Some-clause-stopped
 returns-in-Some-clause-stopped g c = on_err c.deliver.result (c.deliver.ensures.board ∙ ap (λ (o : Option ℕ). taken_by o c.args.board.now) c.in-Some.ensures)
+
+pub returns-in-None-clause-raised : goal.returns-in-None-clause-raised
+returns-in-None-clause-raised g c = λ m k.
+    let a = c.args in
+    subst (λ (o : Option ℕ). c.work.new.worked.raised ≡ raised_unless m o (record a.worked.now.cpu { held = false }) (g.M.GuestMem.space a.mem.now))
+    c.in-None.ensures (c.work.ensures.raised m k)
+
+pub returns-in-Some-clause-raised : goal.returns-in-Some-clause-raised
+returns-in-Some-clause-raised g c = λ m k.
+    let a = c.args in
+    subst (λ (o : Option ℕ). c.deliver.new.worked.raised ≡ raised_unless m o (record a.worked.now.cpu { held = false }) (g.M.GuestMem.space a.mem.now))
+    c.in-Some.ensures c.deliver.ensures.raised

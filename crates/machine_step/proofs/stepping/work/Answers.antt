@@ -5,6 +5,8 @@ use Rattle.machine_model.specs.Step.{after_fetch}
 use Rattle.machine_step.specs.Worked.{ComesTo, answer_of}
 use Rattle.machine_step.proofs.Fetched.{works_on}
 use Rattle.machine_step.proofs.Used.{if_ok_on, on_err}
+use Rattle.machine_step.specs.Raised.{raised_by_fetch}
+use Rattle.machine_step.proofs.Raising.{raises_on, raises_nowhere, raises_halted}
 use Rattle.machine_step.proofs.stepping.work.Goals as goal
 
 pub returns-in-Ok-Insn-clause-uses : goal.returns-in-Ok-Insn-clause-uses
@@ -40,3 +42,26 @@ returns-in-Err-clause-stopped g c = on_err c.refuse_at.result refl
 
 pub carry_out_at-requires-clause-spelled : goal.carry_out_at-requires-clause-spelled
 carry_out_at-requires-clause-spelled g c = rw c.in-Ok-Insn.field-0-is at c.in-Ok-Insn.ensures.spelled
+
+pub returns-in-Ok-Insn-clause-raised : goal.returns-in-Ok-Insn-clause-raised
+returns-in-Ok-Insn-clause-raised g c = λ m k.
+    let cpu = c.args.worked.now.cpu in
+    let goes = raises_on m cpu (g.M.GuestMem.space c.args.mem.now) c.if-worked.false (sym (c.stands_well-well.ensures m k) ∙ c.if-not-well.false)
+    ∙ ap (raised_by_fetch cpu) (rw c.in-Ok-Insn.field-0-is at c.in-Ok-Insn.ensures.fetched) in
+    c.carry_out_at.ensures.raised ∙ sym goes
+
+pub returns-in-Err-clause-raised : goal.returns-in-Err-clause-raised
+returns-in-Err-clause-raised g c = λ m k.
+    let cpu = c.args.worked.now.cpu in
+    let goes = raises_on m cpu (g.M.GuestMem.space c.args.mem.now) c.if-worked.false (sym (c.stands_well-well.ensures m k) ∙ c.if-not-well.false)
+    ∙ ap (raised_by_fetch cpu) c.in-Err.ensures.fetched in
+    c.refuse_at.ensures.raised ∙ sym goes
+
+pub returns-then-worked-clause-raised : goal.returns-then-worked-clause-raised
+returns-then-worked-clause-raised g c = λ m k.
+    c.requires.fresh ∙ sym (raises_halted m c.args.worked.now.cpu (g.M.GuestMem.space c.args.mem.now) c.if-worked.true)
+
+pub returns-then-not-well-clause-raised : goal.returns-then-not-well-clause-raised
+returns-then-not-well-clause-raised g c = λ m k.
+    c.requires.fresh
+    ∙ sym (raises_nowhere m c.args.worked.now.cpu (g.M.GuestMem.space c.args.mem.now) c.if-worked.false (sym (c.stands_well-well.ensures m k) ∙ c.if-not-well.true))
