@@ -15,8 +15,7 @@ use Rattle.shadow_tables.specs.Slots.{SameSlots}
 use Rattle.shadow_tables.specs.Laws.{same-entries}
 use Rattle.shadow_cache.specs.Views as roots
 use Rattle.wedge_core.specs.OfRoots.{of_roots}
-use Rattle.shadow_cache.specs.Roots.{pairs_of}
-use Rattle.shadow_cache.specs.Laws as laws
+use Rattle.shadow_cache.specs.Standing as standing
 use Rattle.shadow_cache.specs.declared.roots.Roots.{Roots}
 use Rattle.wedge_step.specs.Pools.{Keeps}
 use Rattle.wedge_step.specs.Ready.{AreReady}
@@ -78,13 +77,13 @@ module _ (frames : ℕ) (p p' : Pool) (host host' : List ℕ) (s : Seat) (new : 
     still = record { size = size'; frames = λ f k. frame-above host' then_memory (4096 * frames) f (let o = (d.owns.out f k).low in omega (arith, o, low)) goes' }
 
     frames_same : roots.frames new then_memory ≡ roots.frames new host'
-    frames_same = laws.same-frames (pairs_of new) host' then_memory d.stands still
+    frames_same = standing.frames_in new host' then_memory d.stands still
 
     slots_same : SameSlots (roots.slots new host') (roots.slots new then_memory)
-    slots_same = laws.same-slots new.present new.others host' then_memory d.stands still
+    slots_same = standing.slots_in new host' then_memory d.stands still
 
     other_roots_same : AreSame (roots.other_roots new host') (roots.other_roots new then_memory)
-    other_roots_same = laws.same-other_roots new.present new.others host' then_memory d.stands still
+    other_roots_same = standing.other_roots_in new host' then_memory d.stands still
 
     no_others : roots.other_roots new then_memory ≡ []
     no_others = none_same (roots.other_roots new host') (roots.other_roots new then_memory) other_roots_same d.other_roots
@@ -96,7 +95,7 @@ module _ (frames : ℕ) (p p' : Pool) (host host' : List ℕ) (s : Seat) (new : 
     set_same = same-entries (roots.slots new host') (roots.slots new then_memory) slots_same
 
     stand : ∥ roots.stands new then_memory ∥₁
-    stand = laws.stays (pairs_of new) host' then_memory d.stands still
+    stand = standing.stays_in new host' then_memory d.stands still
 
     owns : Owns p' then_memory (roots.frames new then_memory)
     owns = subst (λ (fs : List ℕ). Owns p' then_memory fs) (sym frames_same) (Owns-above p' host' then_memory (4096 * frames) low goes' size' (roots.frames new host') d.owns)
@@ -104,7 +103,7 @@ module _ (frames : ℕ) (p p' : Pool) (host host' : List ℕ) (s : Seat) (new : 
     -- what it held over its own memory it held over the host's
     held_there : roots.frames s.running.shadows host ≡ held_by s
     held_there =
-        laws.same-frames (pairs_of s.running.shadows) s.memory host h.holds.stand
+        standing.frames_in s.running.shadows s.memory host h.holds.stand
         (record { size = sym len; frames = λ f k. frame-above s.memory host (4096 * frames) f (let o = (h.holds.owns.out f k).low in omega (arith, o, behind)) (sym goes) })
 
     pub released_keeps : Keeps p p' host host' (held_by s) (held_by (released frames host' s new))

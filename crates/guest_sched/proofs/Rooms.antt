@@ -11,8 +11,7 @@ use Rattle.frame_pool.specs.declared.Pool.{Pool}
 use Rattle.frame_pool.specs.Held.{Owns, SameIn}
 use Rattle.frame_pool.proofs.Above.{frame-above, Owns-above}
 use Rattle.shadow_cache.specs.Views as roots
-use Rattle.shadow_cache.specs.Roots.{pairs_of}
-use Rattle.shadow_cache.specs.Laws as laws
+use Rattle.shadow_cache.specs.Standing as standing
 use Rattle.shadow_cache.specs.declared.roots.Roots.{Roots}
 use Rattle.wedge_step.specs.declared.running.Running.{Running}
 use Rattle.guest_sched.proofs.Brought.{map_set}
@@ -69,9 +68,9 @@ over_host frames p host t all behind a =
     let low : 4096 * frames ≤ 4096 * base_of p = omega (arith, behind) in
     let same : SameIn (held_by a.s) a.s.memory host =
     record { size = sym a.size; frames = λ f k. frame-above a.s.memory host (4096 * frames) f (let o = (h.owns.out f k).low in omega (arith, o, behind)) (sym a.behind) } in
-    let frames_same = laws.same-frames (pairs_of a.s.running.shadows) a.s.memory host h.stand same in
+    let frames_same = standing.frames_in a.s.running.shadows a.s.memory host h.stand same in
     subst (λ (r : _). ∥ roots.stands r.shadows host ∥₁ × Owns p host (roots.frames r.shadows host)) a.running (
-      laws.stays (pairs_of a.s.running.shadows) a.s.memory host h.stand same,
+      standing.stays_in a.s.running.shadows a.s.memory host h.stand same,
       subst (λ (fs : List ℕ). Owns p host fs) (sym frames_same) (Owns-above p a.s.memory host (4096 * frames) low (sym a.behind) (sym a.size) (held_by a.s) h.owns),
     )
 

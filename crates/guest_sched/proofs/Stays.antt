@@ -14,8 +14,7 @@ use Rattle.shadow_tables.specs.Slots.{Slot, SameSlots}
 use Rattle.shadow_tables.specs.Laws.{same-entries}
 use Rattle.shadow_cache.specs.Views as roots
 use Rattle.wedge_core.specs.OfRoots.{of_roots}
-use Rattle.shadow_cache.specs.Roots.{pairs_of}
-use Rattle.shadow_cache.specs.Laws as laws
+use Rattle.shadow_cache.specs.Standing as standing
 use Rattle.shadow_cache.specs.declared.roots.Roots.{Roots}
 use Rattle.wedge_step.specs.Ready.{IsReady, AreReady, IsFoundIn}
 use Rattle.wedge_step.specs.Standing.{IsHeld, IsOpenSlot, ground, state_of}
@@ -35,13 +34,13 @@ module _ (frames : ℕ) (p p' : Pool) (s : Seat) (then_ : List ℕ) (size : leng
   where
     module _ (h : HoldsFrames frames p s) where
       frames_same : roots.frames s.running.shadows then_ ≡ held_by s
-      frames_same = laws.same-frames (pairs_of s.running.shadows) s.memory then_ h.stand same
+      frames_same = standing.frames_in s.running.shadows s.memory then_ h.stand same
 
       slots_same : SameSlots (roots.slots s.running.shadows s.memory) (roots.slots s.running.shadows then_)
-      slots_same = laws.same-slots s.running.shadows.present s.running.shadows.others s.memory then_ h.stand same
+      slots_same = standing.slots_in s.running.shadows s.memory then_ h.stand same
 
       other_roots_same : AreSame (roots.other_roots s.running.shadows s.memory) (roots.other_roots s.running.shadows then_)
-      other_roots_same = laws.same-other_roots s.running.shadows.present s.running.shadows.others s.memory then_ h.stand same
+      other_roots_same = standing.other_roots_in s.running.shadows s.memory then_ h.stand same
 
       set_same : entries_of (roots.slots s.running.shadows then_) ≡ entries_of (roots.slots s.running.shadows s.memory)
       set_same = same-entries (roots.slots s.running.shadows s.memory) (roots.slots s.running.shadows then_) slots_same
@@ -56,7 +55,7 @@ module _ (frames : ℕ) (p p' : Pool) (s : Seat) (then_ : List ℕ) (size : leng
       stays_still = record { step = refl; fills = refl; state = λ m is. inl (state_still m is) }
 
       stand_still : ∥ roots.stands s.running.shadows then_ ∥₁
-      stand_still = laws.stays (pairs_of s.running.shadows) s.memory then_ h.stand same
+      stand_still = standing.stays_in s.running.shadows s.memory then_ h.stand same
 
       owns_still : Owns p' then_ (roots.frames s.running.shadows then_)
       owns_still = subst (λ (fs : List ℕ). Owns p' then_ fs) (sym frames_same) (record { stands = stands; out = out; once = h.owns.once })

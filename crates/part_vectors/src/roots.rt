@@ -3,8 +3,8 @@
 ghost use Rattle.std.specs.Prelude.{◌≡◌, ◌≤◌, ◌<◌, ◌^◌, length};
 ghost use Rattle.frame_pool.specs.Held.{Owns};
 ghost use Rattle.frame_pool.specs.Pool.{Stands, free_list};
-ghost use Rattle.shadow_cache.specs.Pairs.{frames_of, IsRoots};
-ghost use Rattle.shadow_cache.specs.Roots.{pairs_of};
+ghost use Rattle.shadow_cache.specs.Pairs.{frames_of};
+ghost use Rattle.shadow_cache.specs.Roots.{pairs_of, IsStanding};
 ghost use Rattle.shadow_cache.specs.Replayed.{IsFitCall, AreFitCalls};
 
 use crate::asked::{comes_so, given, is_so};
@@ -41,7 +41,7 @@ struct Bench {
 
 /// Pairs of 0x1000 alone, over a pool of 64 frames.
 fn begin(rt: &impl Abort, alloc: Global) -> Bench
-    ensures stands { ∥ IsRoots (pairs_of result.roots) result.ram ∥₁ }
+    ensures stands { ∥ IsStanding result.roots result.ram ∥₁ }
     ensures owns { Owns result.pool result.ram (frames_of (pairs_of result.roots) result.ram) }
 {
     let mut ram = ram_of(rt, alloc, 128);
@@ -51,9 +51,9 @@ fn begin(rt: &impl Abort, alloc: Global) -> Bench
 }
 
 fn go(rt: &impl Abort, bench: Bench, cr3: u32) -> Bench
-    requires stands { ∥ IsRoots (pairs_of bench.roots) bench.ram ∥₁ }
+    requires stands { ∥ IsStanding bench.roots bench.ram ∥₁ }
     requires owns { Owns bench.pool bench.ram (frames_of (pairs_of bench.roots) bench.ram) }
-    ensures stands { ∥ IsRoots (pairs_of result.roots) result.ram ∥₁ }
+    ensures stands { ∥ IsStanding result.roots result.ram ∥₁ }
     ensures owns { Owns result.pool result.ram (frames_of (pairs_of result.roots) result.ram) }
 {
     let Bench {
@@ -67,9 +67,9 @@ fn go(rt: &impl Abort, bench: Bench, cr3: u32) -> Bench
 }
 
 fn fill(rt: &impl Abort, bench: Bench, frame: u32) -> Bench
-    requires stands { ∥ IsRoots (pairs_of bench.roots) bench.ram ∥₁ }
+    requires stands { ∥ IsStanding bench.roots bench.ram ∥₁ }
     requires owns { Owns bench.pool bench.ram (frames_of (pairs_of bench.roots) bench.ram) }
-    ensures stands { ∥ IsRoots (pairs_of result.roots) result.ram ∥₁ }
+    ensures stands { ∥ IsStanding result.roots result.ram ∥₁ }
     ensures owns { Owns result.pool result.ram (frames_of (pairs_of result.roots) result.ram) }
 {
     let Bench {
@@ -84,9 +84,9 @@ fn fill(rt: &impl Abort, bench: Bench, frame: u32) -> Bench
 }
 
 fn note(rt: &impl Abort, bench: Bench, frame: u32) -> Bench
-    requires stands { ∥ IsRoots (pairs_of bench.roots) bench.ram ∥₁ }
+    requires stands { ∥ IsStanding bench.roots bench.ram ∥₁ }
     requires owns { Owns bench.pool bench.ram (frames_of (pairs_of bench.roots) bench.ram) }
-    ensures stands { ∥ IsRoots (pairs_of result.roots) result.ram ∥₁ }
+    ensures stands { ∥ IsStanding result.roots result.ram ∥₁ }
     ensures owns { Owns result.pool result.ram (frames_of (pairs_of result.roots) result.ram) }
 {
     let Bench {
@@ -100,9 +100,9 @@ fn note(rt: &impl Abort, bench: Bench, frame: u32) -> Bench
 }
 
 fn written(bench: Bench, frame: u32) -> Bench
-    requires stands { ∥ IsRoots (pairs_of bench.roots) bench.ram ∥₁ }
+    requires stands { ∥ IsStanding bench.roots bench.ram ∥₁ }
     requires owns { Owns bench.pool bench.ram (frames_of (pairs_of bench.roots) bench.ram) }
-    ensures stands { ∥ IsRoots (pairs_of result.roots) result.ram ∥₁ }
+    ensures stands { ∥ IsStanding result.roots result.ram ∥₁ }
     ensures owns { Owns result.pool result.ram (frames_of (pairs_of result.roots) result.ram) }
 {
     let Bench {
@@ -116,14 +116,14 @@ fn written(bench: Bench, frame: u32) -> Bench
 
 /// What is kept for the page.
 fn kept(bench: &Bench) -> Option<Entry>
-    requires { ∥ IsRoots (pairs_of bench.now.roots) bench.now.ram ∥₁ }
+    requires { ∥ IsStanding bench.now.roots bench.now.ram ∥₁ }
 {
     bench.roots.kept(&bench.ram, 0x11000)
 }
 
 /// Whether the page may be written.
 fn may_write(bench: &Bench) -> bool
-    requires { ∥ IsRoots (pairs_of bench.now.roots) bench.now.ram ∥₁ }
+    requires { ∥ IsStanding bench.now.roots bench.now.ram ∥₁ }
 {
     bench
         .roots
@@ -146,7 +146,7 @@ enum Step {
 
 /// Whether that is seen.
 fn sees(bench: &Bench, step: Step) -> bool
-    requires { ∥ IsRoots (pairs_of bench.now.roots) bench.now.ram ∥₁ }
+    requires { ∥ IsStanding bench.now.roots bench.now.ram ∥₁ }
 {
     match step {
         Step::Keeps(frame) => kept(bench) == Some(entry(frame)),
@@ -158,9 +158,9 @@ fn sees(bench: &Bench, step: Step) -> bool
 }
 
 fn did(rt: &impl Abort, shown: &str, bench: Bench, k: usize, step: Step) -> Bench
-    requires stands { ∥ IsRoots (pairs_of bench.roots) bench.ram ∥₁ }
+    requires stands { ∥ IsStanding bench.roots bench.ram ∥₁ }
     requires owns { Owns bench.pool bench.ram (frames_of (pairs_of bench.roots) bench.ram) }
-    ensures stands { ∥ IsRoots (pairs_of result.roots) result.ram ∥₁ }
+    ensures stands { ∥ IsStanding result.roots result.ram ∥₁ }
     ensures owns { Owns result.pool result.ram (frames_of (pairs_of result.roots) result.ram) }
 {
     match step {
@@ -176,9 +176,9 @@ fn did(rt: &impl Abort, shown: &str, bench: Bench, k: usize, step: Step) -> Benc
 }
 
 fn follow(rt: &impl Abort, shown: &str, bench: Bench, steps: &[Step]) -> Bench
-    requires stands { ∥ IsRoots (pairs_of bench.roots) bench.ram ∥₁ }
+    requires stands { ∥ IsStanding bench.roots bench.ram ∥₁ }
     requires owns { Owns bench.pool bench.ram (frames_of (pairs_of bench.roots) bench.ram) }
-    ensures stands { ∥ IsRoots (pairs_of result.roots) result.ram ∥₁ }
+    ensures stands { ∥ IsStanding result.roots result.ram ∥₁ }
     ensures owns { Owns result.pool result.ram (frames_of (pairs_of result.roots) result.ram) }
 {
     let mut bench = bench;

@@ -8,7 +8,7 @@ use Rattle.frame_pool.proofs.Lengths.{times-append}
 use Rattle.frame_pool.proofs.Held.{Owns-part, Owns-moves, Owns-counts, Holds-from_Owns, Moves-counts, Moves-counts_from, Moves-beside, SameIn-beside}
 use Rattle.shadow_tables.specs.Slots.{Slot, ArePart, held, slot_at, SameSlots, IsShadow}
 use Rattle.shadow_tables.specs.Laws.Views.{held-stays, slot_at-stays, IsShadow-stays}
-use Rattle.shadow_cache.specs.Pairs.{no_tables, reads, any_reads, tables_of, frames_of, AreShadows, AreSized, BarsWrites, AllBarWrites, AreUnmarked, IsRoots}
+use Rattle.shadow_cache.specs.Pairs.{no_frames, reads, any_reads, tables_of, frames_of, AreShadows, AreSized, BarsWrites, AllBarWrites, AreUnmarked, IsRoots}
 use Rattle.shadow_cache.specs.declared.pair.Pair.{Pair}
 use Rattle.shadow_tables.specs.Opened.{KeepsTables}
 use Rattle.shadow_cache.specs.Laws.{keeps-same, frames-cons, times-frames, bars-same, tables-any}
@@ -159,10 +159,10 @@ reads-none zero f = refl
 reads-none (suc n) zero = refl
 reads-none (suc n) (suc f) = reads-none n f
 
-pub no-reads : (f : ℕ) → get_or no_tables f false ≡ false
-unfolding no_tables
+pub no-reads : (f : ℕ) → get_or no_frames f false ≡ false
+unfolding no_frames
 no-reads f = reads-none 16384 f
 
-pub no-length : length no_tables ≡ 16384
-unfolding no_tables
+pub no-length : length no_frames ≡ 16384
+unfolding no_frames
 no-length = length-replicate {A = Bool} 16384 false

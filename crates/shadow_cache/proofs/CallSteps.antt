@@ -7,7 +7,7 @@ use Rattle.shadow_tables.specs.Opened.{KeepsTables, HasOpened}
 use Rattle.shadow_tables.specs.declared.words.Side.{Side}
 use Rattle.shadow_tables.specs.declared.calls.Call.{Call}
 use Rattle.shadow_tables.specs.declared.calls.Call.TheVariants.{Fill, DropPage, DropDir, DropAll, Note, Written}
-use Rattle.shadow_cache.specs.Pairs.{no_tables, tables_of, frames_of}
+use Rattle.shadow_cache.specs.Pairs.{no_frames, tables_of, frames_of}
 use Rattle.shadow_cache.specs.Others.{AreKept, AllLoseWrites, place_of}
 use Rattle.shadow_cache.specs.After.{written_in, noted_in, emptied}
 use Rattle.shadow_cache.specs.Switched.{staying_pairs, IsFresh, Opens, ComesBack, IsSwitched}
@@ -106,7 +106,7 @@ module _ (v : ℕ) (cs : List RootsCall) (p : Pair) (ps ps' : List Pair) (m m' :
   few-frames : length (held p.shadow m') ≤ 2
   few-frames =
       let x = ap (λ (xs : List Pair). length (frames_of xs m')) e in
-      let y = ap (λ (fs : List ℕ). length fs) (frames-cons (record p { tables = no_tables; stale = false }) [] m') in
+      let y = ap (λ (fs : List ℕ). length fs) (frames-cons (record p { tables = no_frames; stale = false }) [] m') in
       let z = length-append (held p.shadow m') (frames_of [] m') in
       omega (arith, two, x, y, z)
 

@@ -9,7 +9,7 @@ use Rattle.frame_pool.proofs.Held.{Moves-trans, Owns-moves}
 use Rattle.guest_ram.specs.Among.{is_among}
 use Rattle.shadow_tables.specs.Slots.{ArePart, held, slot_at, SameSlots, IsShadow, IsEmpty}
 use Rattle.shadow_tables.specs.Opened.{KeepsTables}
-use Rattle.shadow_cache.specs.Pairs.{no_tables, reads, any_reads, tables_of, frames_of, AreSized, BarsWrites, AllBarWrites, AreUnmarked, IsRoots}
+use Rattle.shadow_cache.specs.Pairs.{no_frames, reads, any_reads, tables_of, frames_of, AreSized, BarsWrites, AllBarWrites, AreUnmarked, IsRoots}
 use Rattle.shadow_cache.specs.Others.{AreKept}
 use Rattle.shadow_cache.specs.declared.pair.Pair.{Pair}
 use Rattle.shadow_cache.specs.Laws.{frames-cons, kept-shadows, kept-barred, tables-any}
@@ -41,9 +41,9 @@ roots-shadow p p' ps m h e size i =
 -- ---- all dropped
 
 abbrev pub emptied_pair : Pair → Pair
-emptied_pair p = record p { tables = no_tables; stale = false }
+emptied_pair p = record p { tables = no_frames; stale = false }
 
-bars-empty : (test : ℕ → Bool) (p : Pair) (m : List ℕ) → IsEmpty p.shadow m → BarsWrites test (slot_at p.shadow m)
+pub bars-empty : (test : ℕ → Bool) (p : Pair) (m : List ℕ) → IsEmpty p.shadow m → BarsWrites test (slot_at p.shadow m)
 bars-empty test p m e = λ page slot l q t. absurd (none-some slot (sym (e.none page l) ∙ q))
 
 unread : (p : Pair) (x : ℕ) → any_reads (emptied_pair p ∷ []) x ≡ false

@@ -5,7 +5,7 @@ use Rattle.frame_pool.specs.declared.Pool.{Pool}
 use Rattle.frame_pool.specs.Held.{times, Holds, Owns, Moves, SameIn}
 use Rattle.frame_pool.proofs.Held.{Owns-moves, Holds-from_Owns, Moves-counts, Moves-refl, Moves-beside, SameIn-beside}
 use Rattle.shadow_tables.specs.Slots.{held, slot_at, IsEmpty}
-use Rattle.shadow_cache.specs.Pairs.{no_tables, reads, any_reads, frames_of, AreShadows, AreSized, BarsWrites, AllBarWrites, AreUnmarked, OthersUnmarked, IsRoots}
+use Rattle.shadow_cache.specs.Pairs.{no_frames, reads, any_reads, frames_of, AreShadows, AreSized, BarsWrites, AllBarWrites, AreUnmarked, OthersUnmarked, IsRoots}
 use Rattle.shadow_cache.specs.Others.{AreKept, one_later, place_of}
 use Rattle.shadow_cache.specs.Switched.{Opens, ComesBack, Comes, IsSwitched}
 use Rattle.shadow_cache.specs.declared.pair.Pair.{Pair}
@@ -55,7 +55,7 @@ barred-remove test [] (suc i) m h = tt
 barred-remove test (q ∷ qs) zero m h = h.1
 barred-remove test (q ∷ qs) (suc i) m h = (h.0, barred-remove test qs i m h.1)
 
-barred-at : (test : ℕ → Bool) (ps : List Pair) (i : ℕ) (p : Pair) (m : List ℕ) → slice_get ps i ≡ Some p → AllBarWrites test ps m → BarsWrites test (slot_at p.shadow m)
+pub barred-at : (test : ℕ → Bool) (ps : List Pair) (i : ℕ) (p : Pair) (m : List ℕ) → slice_get ps i ≡ Some p → AllBarWrites test ps m → BarsWrites test (slot_at p.shadow m)
 barred-at test [] i p m e h = absurd cc
 barred-at test (q ∷ qs) zero p m e h = subst (λ (x : Pair). BarsWrites test (slot_at x.shadow m)) (same_Some q p e) h.0
 barred-at test (q ∷ qs) (suc i) p m e h = barred-at test qs i p m e h.1
@@ -106,7 +106,7 @@ last-leaves ps l = ap (λ (qs : List Pair). take 7 ps ++ qs) (drop_all 8 ps l) �
 -- ---- a new one
 
 module _ (pool pool' : Pool) (q : Pair) (ps : List Pair) (m m' : List ℕ) (h : IsRoots ps m) (o : Owns pool m (frames_of ps m)) (v : Moves pool pool' m m' [] (held q.shadow m'))
-    (e : IsEmpty q.shadow m') (t : q.tables ≡ no_tables) (few : length ps ≤ 7) where
+    (e : IsEmpty q.shadow m') (t : q.tables ≡ no_frames) (few : length ps ≤ 7) where
   same : SameIn (frames_of ps m) m m'
   same = SameIn-beside pool pool' m m' [] (held q.shadow m') (frames_of ps m) o v
 

@@ -1,3 +1,4 @@
+pub mod Spread
 pub mod Small
 pub mod SeenCache
 pub mod AloneRoots
@@ -8,6 +9,7 @@ pub mod Present
 pub mod Beside
 pub mod Calls
 pub mod Noting
+pub mod Listing
 pub mod Coming
 pub mod Noted
 pub mod LastFills

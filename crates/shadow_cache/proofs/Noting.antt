@@ -7,7 +7,7 @@ use Rattle.frame_pool.proofs.Held.{Holds-writes, Writes-trans, Moves-kept}
 use Rattle.guest_ram.specs.Among.{is_among}
 use Rattle.shadow_tables.specs.Slots.{Slot, barred, ArePart, held, slot_at, LosesWrites, IsShadow, IsEmpty}
 use Rattle.shadow_tables.specs.Laws.Views.{held-stays, slot_at-stays, IsShadow-stays}
-use Rattle.shadow_cache.specs.Pairs.{no_tables, any_reads, tables_of, frames_of, AreShadows, BarsWrites, AllBarWrites, IsRoots}
+use Rattle.shadow_cache.specs.Pairs.{no_frames, any_reads, tables_of, frames_of, AreShadows, BarsWrites, AllBarWrites, IsRoots}
 use Rattle.shadow_cache.specs.Others.{AreKept, AllLoseWrites}
 use Rattle.shadow_cache.specs.declared.pair.Pair.{Pair}
 use Rattle.shadow_tables.specs.Opened.{KeepsTables}
@@ -28,7 +28,7 @@ pub alone-frames : (p : Pair) (ps : List Pair) (m : List ℕ) → ps ≡ [] → 
 alone-frames p ps m e =
     ap (λ (qs : List Pair). frames_of (p ∷ qs) m) e ∙ frames-cons p [] m ∙ ap (λ (fs : List ℕ). held p.shadow m ++ fs) (none-frames m) ∙ append-nil (held p.shadow m)
 
-pub fresh-roots : (p : Pair) (ps : List Pair) (m : List ℕ) → ps ≡ [] → IsEmpty p.shadow m → p.tables ≡ no_tables → IsRoots (p ∷ ps) m
+pub fresh-roots : (p : Pair) (ps : List Pair) (m : List ℕ) → ps ≡ [] → IsEmpty p.shadow m → p.tables ≡ no_frames → IsRoots (p ∷ ps) m
 fresh-roots p ps m e f t =
     subst (λ (qs : List Pair). IsRoots (p ∷ qs) m) (sym e) (record {
       few = omega arith;
@@ -65,7 +65,7 @@ bars-one t u frame (Some s) i b = λ slot e y.
 bars-read_from : (t u : ℕ → Bool) (frame : ℕ) (f f' : ℕ → Option Slot) → ((x : ℕ) → u x ≡ true → (x ≡ frame) ⊎ (t x ≡ true)) → LosesWrites f f' (one frame) → BarsWrites t f → BarsWrites u f'
 bars-read_from t u frame f f' i l b = λ page slot low e y. bars-one t u frame (f page) i (λ s q z. b page s low q z) slot (sym (l page low) ∙ e) y
 
-all-read_from : (t u : ℕ → Bool) (frame : ℕ) (ps : List Pair) (m m' : List ℕ) → ((x : ℕ) → u x ≡ true → (x ≡ frame) ⊎ (t x ≡ true)) → AllLoseWrites ps m m' frame → AllBarWrites t ps m → AllBarWrites u ps m'
+pub all-read_from : (t u : ℕ → Bool) (frame : ℕ) (ps : List Pair) (m m' : List ℕ) → ((x : ℕ) → u x ≡ true → (x ≡ frame) ⊎ (t x ≡ true)) → AllLoseWrites ps m m' frame → AllBarWrites t ps m → AllBarWrites u ps m'
 all-read_from t u frame [] m m' i l b = tt
 all-read_from t u frame (p ∷ ps) m m' i l b = (bars-read_from t u frame (slot_at p.shadow m) (slot_at p.shadow m') i l.0 b.0, all-read_from t u frame ps m m' i l.1 b.1)
 
@@ -151,7 +151,7 @@ barred-before t frame (Some s) e b =
       | inr k ↦ a-write s.writes (eqb s.entry.frame frame) k.0
     ])
 
-all-barred : (t : ℕ → Bool) (frame : ℕ) (ps : List Pair) (m : List ℕ) → t frame ≡ true → AllBarWrites t ps m → AllLoseWrites ps m m frame
+pub all-barred : (t : ℕ → Bool) (frame : ℕ) (ps : List Pair) (m : List ℕ) → t frame ≡ true → AllBarWrites t ps m → AllLoseWrites ps m m frame
 all-barred t frame [] m e b = tt
 all-barred t frame (p ∷ ps) m e b = (
   (λ page l. barred-before t frame (slot_at p.shadow m page) e (λ s q y. b.0 page s l q y)),

@@ -3,7 +3,7 @@ use Rattle.std.specs.Prelude.{◌≡◌, ℕ, List, [], ◌∷◌, Bool, Option,
 use Rattle.shadow_tables.specs.Slots.{Slot, held, slot_at, root_of}
 use Rattle.shadow_tables.specs.Opened.{KeepsTables, HasOpened}
 use Rattle.shadow_tables.specs.declared.words.Side.{Side}
-use Rattle.shadow_cache.specs.Pairs.{no_tables, reads}
+use Rattle.shadow_cache.specs.Pairs.{no_frames, reads}
 use Rattle.shadow_cache.specs.Switched.{IsFresh}
 use Rattle.shadow_cache.specs.declared.pair.Pair.{Pair}
 
@@ -62,7 +62,7 @@ written_in (p ∷ ps) frame = marked_by p frame ∷ filter (λ q. not (reads q f
 -- one unmarked pair of the present value, whose tables weren't read yet
 abbrev pub emptied : List Pair → List Pair
 emptied [] = []
-emptied (p ∷ ps) = record p { tables = no_tables; stale = false } ∷ []
+emptied (p ∷ ps) = record p { tables = no_frames; stale = false } ∷ []
 
 -- the pairs of a new value
 pub record IsStart (ps : List Pair) (m : List ℕ) (cr3 : ℕ) : Type 0 where

@@ -45,7 +45,7 @@ AreSized-prop : (ps : List Pair) → IsProp (AreSized ps)
 AreSized-prop [] = Unit-prop
 AreSized-prop (p ∷ ps) = let here : IsProp (length p.tables ≡ 16384) = Prim.hlevel props in ×_prop here (AreSized-prop ps)
 
-AllBarWrites-prop : (test : ℕ → Bool) (ps : List Pair) (m : List ℕ) → IsProp (AllBarWrites test ps m)
+pub AllBarWrites-prop : (test : ℕ → Bool) (ps : List Pair) (m : List ℕ) → IsProp (AllBarWrites test ps m)
 AllBarWrites-prop test [] m = Unit-prop
 AllBarWrites-prop test (p ∷ ps) m =
     let last : (slot : Slot) → IsProp (slot.writes ≡ false) = λ slot. Prim.hlevel props in
@@ -59,7 +59,7 @@ OthersUnmarked-prop : (ps : List Pair) → IsProp (OthersUnmarked ps)
 OthersUnmarked-prop [] = Unit-prop
 OthersUnmarked-prop (p ∷ ps) = AreUnmarked-prop ps
 
-IsRoots-prop : (ps : List Pair) (m : List ℕ) → IsProp (IsRoots ps m)
+pub IsRoots-prop : (ps : List Pair) (m : List ℕ) → IsProp (IsRoots ps m)
 IsRoots-prop ps m x y =
     let few_prop : IsProp (length ps ≤ 8) = Prim.hlevel props in
     λ i. record {
@@ -123,7 +123,7 @@ pub kept-barred : (test : ℕ → Bool) (ps : List Pair) (m m' : List ℕ) → A
 kept-barred test [] m m' k b = tt
 kept-barred test (p ∷ ps) m m' k b = (bars-same test (slot_at p.shadow m) (slot_at p.shadow m') k.2 b.0, kept-barred test ps m m' k.3 b.1)
 
-roots-stay : (ps : List Pair) (m m' : List ℕ) → IsRoots ps m → SameIn (frames_of ps m) m m' → IsRoots ps m'
+pub roots-stay : (ps : List Pair) (m m' : List ℕ) → IsRoots ps m → SameIn (frames_of ps m) m m' → IsRoots ps m'
 roots-stay ps m m' h e =
     let k = kept-same ps m m' h.shadows e in
     record {

@@ -1,4 +1,5 @@
 pub mod Keyed
+pub mod FrameSets
 pub mod Pairs
 pub mod Others
 pub mod Switched
@@ -9,6 +10,7 @@ pub mod Replayed
 pub mod Agreeing
 pub mod Away
 pub mod Laws
+pub mod Standing
 pub mod OtherRoots
 pub mod Reloaded
 pub mod Views

@@ -1,13 +1,10 @@
 -- Pairs of views, one for each value of CR3 that is kept, over a memory.
-use Rattle.std.specs.Prelude.{◌≡◌, ℕ, suc, ◌^◌, ◌<◌, ◌≤◌, List, [], ◌∷◌, ◌++◌, length, slice_index_or, replicate, Bool, true, false, if◌then◌else◌, Option, Some}
+use Rattle.std.specs.Prelude.{◌≡◌, ℕ, suc, ◌^◌, ◌<◌, ◌≤◌, List, [], ◌∷◌, ◌++◌, length, slice_index_or, Bool, true, false, if◌then◌else◌, Option, Some}
 use Rattle.std.specs.List.{list_any}
 use Rattle.frame_pool.specs.Held.{Holds}
 use Rattle.shadow_tables.specs.Slots.{Slot, held, slot_at, IsShadow}
+unfoldable pub use Rattle.shadow_cache.specs.FrameSets.{no_frames}
 use Rattle.shadow_cache.specs.declared.pair.Pair.{Pair}
-
--- no table was read
-unfoldable pub no_tables : List Bool
-no_tables = replicate 16384 false
 
 -- the guest's tables of this pair were read from the frame
 abbrev pub reads : Pair → ℕ → Bool

@@ -1,7 +1,7 @@
 -- Where a load of CR3 leads.
 use Rattle.std.specs.Prelude.{◌≡◌, ℕ, List, [], ◌∷◌, take, remove, slice_get, false, if◌then◌else◌, Some, MatchOption}
 use Rattle.shadow_tables.specs.Slots.{IsEmpty}
-use Rattle.shadow_cache.specs.Pairs.{no_tables}
+use Rattle.shadow_cache.specs.Pairs.{no_frames}
 use Rattle.shadow_cache.specs.Others.{AreKept, place_of}
 use Rattle.shadow_cache.specs.declared.pair.Pair.{Pair}
 
@@ -9,7 +9,7 @@ use Rattle.shadow_cache.specs.declared.pair.Pair.{Pair}
 pub record IsFresh (p : Pair) (m : List ℕ) (cr3 : ℕ) : Type 0 where
   pub value : p.cr3 ≡ cr3
   pub empty : IsEmpty p.shadow m
-  pub tables : p.tables ≡ no_tables
+  pub tables : p.tables ≡ no_frames
   pub unmarked : p.stale ≡ false
 
 -- a marked present pair leaves

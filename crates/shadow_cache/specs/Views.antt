@@ -4,12 +4,12 @@ use Rattle.shadow_tables.specs.OtherRoot.{OtherRoot}
 use Rattle.shadow_tables.specs.Slots.{Slot, slot_at}
 use Rattle.shadow_cache.specs.OtherRoots.{other_roots_of}
 use Rattle.shadow_cache.specs.Opening.{AllOpenedOnly}
-use Rattle.shadow_cache.specs.Pairs.{reads, frames_of, IsRoots}
-use Rattle.shadow_cache.specs.Roots.{pairs_of}
+use Rattle.shadow_cache.specs.Pairs.{reads, frames_of}
+use Rattle.shadow_cache.specs.Roots.{pairs_of, IsStanding}
 use Rattle.shadow_cache.specs.declared.roots.Roots.{Roots}
 
 abbrev pub stands : Roots → List ℕ → Type 0
-stands r m = IsRoots (pairs_of r) m
+stands r m = IsStanding r m
 
 abbrev pub frames : Roots → List ℕ → List ℕ
 frames r m = frames_of (pairs_of r) m

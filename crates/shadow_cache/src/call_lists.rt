@@ -4,8 +4,8 @@ ghost use Rattle.std.specs.Prelude.{◌≡◌, ℕ, ◌+◌, ◌≤◌, ◌<◌,
 ghost use Rattle.frame_pool.specs.Pool.{free_list, Stands};
 ghost use Rattle.frame_pool.specs.Held.{Owns, Moves};
 ghost use Rattle.shadow_tables.specs.Calls.{IsFit, fill_count};
-ghost use Rattle.shadow_cache.specs.Pairs.{frames_of, IsRoots};
-ghost use Rattle.shadow_cache.specs.Roots.{pairs_of};
+ghost use Rattle.shadow_cache.specs.Pairs.{frames_of};
+ghost use Rattle.shadow_cache.specs.Roots.{pairs_of, IsStanding};
 ghost use Rattle.shadow_cache.specs.After.{slots_of};
 ghost use Rattle.shadow_cache.specs.Past.{pairs_after};
 ghost use Rattle.shadow_cache.specs.Replayed.{IsFitCall, AreFitCalls, need, BeginsBeyond, IsKeptAs, ArePasts, done_in, most_frames};
@@ -38,10 +38,10 @@ pub struct Replayed {
 
 /// Does a call that all shadows have, unless it is a fill and no frame is free. Then nothing changes.
 fn apply_shared(roots: &mut Roots, ram: &mut Ram, pool: &mut Pool, call: Call) -> bool
-    requires stands { ∥ IsRoots (pairs_of roots.old) ram.old ∥₁ }
+    requires stands { ∥ IsStanding roots.old ram.old ∥₁ }
     requires owns { Owns pool.old ram.old (frames_of (pairs_of roots.old) ram.old) }
     requires fit { IsFit call }
-    ensures stands { ∥ IsRoots (pairs_of roots.new) ram.new ∥₁ }
+    ensures stands { ∥ IsStanding roots.new ram.new ∥₁ }
     ensures moves { Moves pool.old pool.new ram.old ram.new
         (frames_of (pairs_of roots.old) ram.old) (frames_of (pairs_of roots.new) ram.new) }
     ensures undone { (IsTrue result → ⊥)
@@ -66,10 +66,10 @@ fn apply_shared(roots: &mut Roots, ram: &mut Ram, pool: &mut Pool, call: Call) -
 
 /// Does a call, unless too few frames are free for it. Then nothing changes.
 fn apply(roots: &mut Roots, ram: &mut Ram, pool: &mut Pool, call: RootsCall) -> bool
-    requires stands { ∥ IsRoots (pairs_of roots.old) ram.old ∥₁ }
+    requires stands { ∥ IsStanding roots.old ram.old ∥₁ }
     requires owns { Owns pool.old ram.old (frames_of (pairs_of roots.old) ram.old) }
     requires fit { IsFitCall call }
-    ensures stands { ∥ IsRoots (pairs_of roots.new) ram.new ∥₁ }
+    ensures stands { ∥ IsStanding roots.new ram.new ∥₁ }
     ensures moves { Moves pool.old pool.new ram.old ram.new
         (frames_of (pairs_of roots.old) ram.old) (frames_of (pairs_of roots.new) ram.new) }
     ensures undone { (IsTrue result → ⊥)
@@ -90,10 +90,10 @@ fn apply(roots: &mut Roots, ram: &mut Ram, pool: &mut Pool, call: RootsCall) -> 
 
 /// Does the calls in order up to one for which too few frames are free, and returns how many were done.
 fn follow(roots: &mut Roots, ram: &mut Ram, pool: &mut Pool, calls: &[RootsCall]) -> usize
-    requires stands { ∥ IsRoots (pairs_of roots.old) ram.old ∥₁ }
+    requires stands { ∥ IsStanding roots.old ram.old ∥₁ }
     requires owns { Owns pool.old ram.old (frames_of (pairs_of roots.old) ram.old) }
     requires fit { AreFitCalls calls.now }
-    ensures stands { ∥ IsRoots (pairs_of roots.new) ram.new ∥₁ }
+    ensures stands { ∥ IsStanding roots.new ram.new ∥₁ }
     ensures moves { Moves pool.old pool.new ram.old ram.new
         (frames_of (pairs_of roots.old) ram.old) (frames_of (pairs_of roots.new) ram.new) }
     ensures some { result ≤ length calls.now }
@@ -128,7 +128,7 @@ pub fn replay(
     requires free { 2 ≤ length (free_list pool.old ram.old) }
     requires fit { AreFitCalls calls.now }
     ensures refused { OnErr result ((pool.new ≡ pool.old) × (ram.new ≡ ram.old)) }
-    ensures stands { IfOk result (λ r. ∥ IsRoots (pairs_of r.roots) ram.new ∥₁) }
+    ensures stands { IfOk result (λ r. ∥ IsStanding r.roots ram.new ∥₁) }
     ensures owns { IfOk result (λ r. Owns pool.new ram.new (frames_of (pairs_of r.roots) ram.new)) }
     ensures moves { IfOk result (λ r. Moves pool.old pool.new ram.old ram.new [] (frames_of (pairs_of r.roots) ram.new)) }
     ensures some { IfOk result (λ r. r.count ≤ length calls.now) }

@@ -3,6 +3,7 @@
 
 mod call_lists;
 mod coming_back;
+mod frame_set;
 mod holding;
 mod others;
 mod pair;

@@ -11,6 +11,7 @@ ghost use Rattle.shadow_tables.specs.OtherRoot.{IsSame, AreSame};
 ghost use Rattle.shadow_tables.specs.Known.{KnowsNothing};
 ghost use Rattle.shadow_tables.specs.Slots.{ArePart};
 ghost use Rattle.shadow_cache.specs.Laws as laws;
+ghost use Rattle.shadow_cache.specs.Standing as standing;
 ghost use Rattle.shadow_tables.specs.Seen.{emptied};
 ghost use Rattle.shadow_cache.specs.Loading.{switched};
 ghost use Rattle.shadow_cache.specs.Reloaded.{put_by, coming, staying};
@@ -83,9 +84,9 @@ pub trait Reloads: Shadows {
 impl Reloads for Roots {
     ghost use Rattle.shadow_cache.specs.Roots.{pairs_of};
 
-    ghost few = { λ r m h. laws.few-other_roots r.present r.others m h };
+    ghost few = { λ r m h. laws.few-other_roots r.present r.others m (standing.roots_in r m h) };
 
-    ghost sized = { λ r m indices among h o all. laws.frames-sized r.present r.others m indices among h o all };
+    ghost sized = { λ r m indices among h o all. laws.frames-sized r.present r.others m indices among (standing.roots_in r m h) o all };
 
     fn switch(&mut self, ram: &mut Ram, pool: &mut Pool, cr3: u32) {
         Roots::switch(self, ram, pool, cr3);

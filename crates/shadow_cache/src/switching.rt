@@ -27,7 +27,7 @@ pub fn put_by(others: &mut Pairs, ram: &mut Ram, pool: &mut Pool, before: &Pair)
     if before.stale {
         before.shadow.close(ram, pool);
     } else {
-        others.push(*before);
+        others.push(before.copy());
     }
 }
 

@@ -8,9 +8,9 @@ use Rattle.shadow_tables.specs.Laws.Entries.{entries_of-none}
 use Rattle.shadow_tables.specs.Slots.{held, slot_at, IsEmpty}
 use Rattle.shadow_cache.specs.After.{IsStart}
 use Rattle.shadow_cache.specs.OtherRoots.{other_roots_of}
-use Rattle.shadow_cache.specs.Laws as laws
-use Rattle.shadow_cache.specs.Pairs.{frames_of, IsRoots}
-use Rattle.shadow_cache.specs.Roots.{pairs_of}
+use Rattle.shadow_cache.specs.Standing as standing
+use Rattle.shadow_cache.specs.Pairs.{frames_of}
+use Rattle.shadow_cache.specs.Roots.{pairs_of, IsStanding}
 use Rattle.shadow_cache.specs.Views as roots
 use Rattle.wedge_core.specs.OfRoots.{of_roots}
 use Rattle.shadow_cache.specs.declared.pair.Pair.{Pair}
@@ -34,7 +34,7 @@ two_of ps p m is none =
     let a = length-append (held p.shadow m) [] in
     ap (λ (l : List Pair). length (frames_of l m)) is ∙ omega (arith, a, k)
 
-pub started : (r : Roots) (m : List ℕ) (cr3 : ℕ) → ∥ IsRoots (pairs_of r) m ∥₁ → IsStart (pairs_of r) m cr3 → IsNew r m cr3
+pub started : (r : Roots) (m : List ℕ) (cr3 : ℕ) → ∥ IsStanding r m ∥₁ → IsStart (pairs_of r) m cr3 → IsNew r m cr3
 started r m cr3 stand st =
     let e : r.present ∷ r.others ≡ st.pair ∷ [] = st.alone in
     let here : r.present ≡ st.pair = cc in
@@ -48,15 +48,15 @@ started r m cr3 stand st =
 
 pub new_behind : (r : Roots) (m n : List ℕ) (cr3 : ℕ) → SameIn (roots.frames r m) m n → IsNew r m cr3 → IsNew r n cr3
 new_behind r m n cr3 same h = record {
-  stand = laws.stays (pairs_of r) m n h.stand same;
-  none = λ page lt. laws.same-slots r.present r.others m n h.stand same page lt ∙ h.none page lt;
-  two = ap length (laws.same-frames (pairs_of r) m n h.stand same) ∙ h.two;
+  stand = standing.stays_in r m n h.stand same;
+  none = λ page lt. standing.slots_in r m n h.stand same page lt ∙ h.none page lt;
+  two = ap length (standing.frames_in r m n h.stand same) ∙ h.two;
   others = h.others;
   value = h.value;
 }
 
 pub new_frames : (r : Roots) (m n : List ℕ) (cr3 : ℕ) → SameIn (roots.frames r m) m n → IsNew r m cr3 → roots.frames r n ≡ roots.frames r m
-new_frames r m n cr3 same h = laws.same-frames (pairs_of r) m n h.stand same
+new_frames r m n cr3 same h = standing.frames_in r m n h.stand same
 
 pub new_empty : (r : Roots) (m : List ℕ) (cr3 : ℕ) → IsNew r m cr3 → entries_of (roots.slots r m) ≡ empty
 new_empty r m cr3 h = entries_of-none (roots.slots r m) h.none

@@ -185,7 +185,7 @@ fn make_way<S: Shadows>(
 
 /// Puts by what is kept, but for these pages, and goes to what was kept under this value of CR3. Where notes are wanted, or
 /// frames lack, all is dropped first.
-// 32 KB of pairs are moved here: the frame of a step that loads no CR3 is without them.
+// Pairs of views are moved here, 2 KB each: the frame of a step that loads no CR3 is without them.
 #[inline(never)]
 fn load<S: Reloads>(
     shadows: &mut S,

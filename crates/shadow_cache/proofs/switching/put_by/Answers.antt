@@ -1,4 +1,4 @@
-use Rattle.std.proofs.Common.{List, ◌∷◌, refl, sym, subst, arith}
+use Rattle.std.proofs.Common.{List, ◌∷◌, refl, sym, ap, ◌∙◌, subst, arith}
 use Rattle.std.proofs.lemmas.Bool.{or_right}
 use Rattle.frame_pool.specs.Held.{Moves}
 use Rattle.frame_pool.proofs.Held.{Owns-moves, Moves-refl, Holds-from_Owns}
@@ -28,9 +28,9 @@ returns-then-before-clause-roots c =
     (kept-shadows ps m n k) h.sized.1 (kept-barred (any_reads (c.args.before.now ∷ ps)) ps m n k h.barred.1) (λ x e. or_right (reads c.args.before.now x) (any_reads ps x) e) (others-unmarked ps h.unmarked)
 
 pub returns-else-before-clause-kept : goal.returns-else-before-clause-kept
-returns-else-before-clause-kept c = subst (λ (ps : List Pair). AreKept ps c.args.ram.now c.args.ram.now) (sym c.push.ensures) (kept-refl (c.args.before.now ∷ c.args.others.now) c.args.ram.now c.requires.roots.shadows)
+returns-else-before-clause-kept c = subst (λ (ps : List Pair). AreKept ps c.args.ram.now c.args.ram.now) (sym (c.push.ensures ∙ ap (λ (p : Pair). p ∷ c.args.others.now) c.copy.ensures)) (kept-refl (c.args.before.now ∷ c.args.others.now) c.args.ram.now c.requires.roots.shadows)
 
 pub returns-else-before-clause-moves : goal.returns-else-before-clause-moves
 returns-else-before-clause-moves c =
-    subst (λ (ps : List Pair). Moves c.args.pool.now c.args.pool.now c.args.ram.now c.args.ram.now (frames_of (c.args.before.now ∷ c.args.others.now) c.args.ram.now) (frames_of ps c.args.ram.now)) (sym c.push.ensures)
+    subst (λ (ps : List Pair). Moves c.args.pool.now c.args.pool.now c.args.ram.now c.args.ram.now (frames_of (c.args.before.now ∷ c.args.others.now) c.args.ram.now) (frames_of ps c.args.ram.now)) (sym (c.push.ensures ∙ ap (λ (p : Pair). p ∷ c.args.others.now) c.copy.ensures))
     (Moves-refl c.args.pool.now c.args.ram.now (frames_of (c.args.before.now ∷ c.args.others.now) c.args.ram.now) c.requires.owns.stands)

@@ -1,39 +1,46 @@
-use Rattle.std.proofs.Common.{refl}
+use Rattle.std.proofs.Common.{ℕ, Bool, refl}
 use Rattle.std.proofs.lemmas.Grind.{merely}
 use Rattle.shadow_tables.specs.Slots.{slot_at}
-use Rattle.shadow_cache.specs.Pairs.{any_reads}
-use Rattle.shadow_cache.specs.Roots.{pairs_of}
-use Rattle.shadow_cache.specs.Laws.{had}
+use Rattle.shadow_cache.specs.Pairs.{any_reads, BarsWrites}
+use Rattle.shadow_cache.specs.Roots.{pairs_of, is_barred}
+use Rattle.shadow_cache.specs.Laws.{kept-barred}
+use Rattle.shadow_cache.specs.Standing.{stood}
 use Rattle.shadow_cache.proofs.Present.{bars-dropped, write-roots, write-frames, write-memory, write-moves, write-kept}
 use Rattle.shadow_cache.proofs.CallSteps.{step-drop_page}
 use Rattle.shadow_cache.proofs.roots.Roots.drop_page.Goals as goal
 
 pub drop_page-requires-clause-shadow : goal.drop_page-requires-clause-shadow
-drop_page-requires-clause-shadow c = (had (pairs_of c.args.self.now) c.args.ram.now c.requires.stands).shadows.0
+drop_page-requires-clause-shadow c = (stood c.args.self.now c.args.ram.now c.requires.stands).roots.shadows.0
 
 pub returns-clause-stands : goal.returns-clause-stands
 returns-clause-stands c =
-    let r = c.args.self.now in let m = c.args.ram.now in let n = c.drop_page.new.ram in let h = had (pairs_of r) m c.requires.stands in let e = c.drop_page.ensures in
-    merely (write-roots r.present r.others m n h e.becomes.shadow e.held e.memory (bars-dropped (any_reads (pairs_of r)) (slot_at r.present.shadow m) (slot_at r.present.shadow n) c.args.page h.barred.0 e.becomes.there e.becomes.others))
+    let r = c.args.self.now in let m = c.args.ram.now in let n = c.drop_page.new.ram in let s = stood r m c.requires.stands in let h = s.roots in let e = c.drop_page.ensures in
+    let lacks : (test : ℕ → Bool) → BarsWrites test (slot_at r.present.shadow m) → BarsWrites test (slot_at r.present.shadow n) =
+    λ test b. bars-dropped test (slot_at r.present.shadow m) (slot_at r.present.shadow n) c.args.page b e.becomes.there e.becomes.others
+    in
+    merely (record {
+      roots = write-roots r.present r.others m n h e.becomes.shadow e.held e.memory (lacks (any_reads (pairs_of r)) h.barred.0);
+      barred = (lacks (is_barred r) s.barred.0, kept-barred (is_barred r) r.others m n (write-kept r.present r.others m n h e.becomes.shadow e.held e.memory) s.barred.1);
+    })
 
 pub returns-clause-frames : goal.returns-clause-frames
 returns-clause-frames c =
-    let r = c.args.self.now in let m = c.args.ram.now in let n = c.drop_page.new.ram in let h = had (pairs_of r) m c.requires.stands in let e = c.drop_page.ensures in
+    let r = c.args.self.now in let m = c.args.ram.now in let n = c.drop_page.new.ram in let h = (stood r m c.requires.stands).roots in let e = c.drop_page.ensures in
     write-frames r.present r.others m n h e.becomes.shadow e.held e.memory
 
 pub returns-clause-memory : goal.returns-clause-memory
 returns-clause-memory c =
-    let r = c.args.self.now in let m = c.args.ram.now in let n = c.drop_page.new.ram in let h = had (pairs_of r) m c.requires.stands in let e = c.drop_page.ensures in
+    let r = c.args.self.now in let m = c.args.ram.now in let n = c.drop_page.new.ram in let h = (stood r m c.requires.stands).roots in let e = c.drop_page.ensures in
     write-memory r.present r.others m n h e.becomes.shadow e.held e.memory
 
 pub returns-clause-moves : goal.returns-clause-moves
 returns-clause-moves c =
-    let r = c.args.self.now in let m = c.args.ram.now in let n = c.drop_page.new.ram in let h = had (pairs_of r) m c.requires.stands in let e = c.drop_page.ensures in
+    let r = c.args.self.now in let m = c.args.ram.now in let n = c.drop_page.new.ram in let h = (stood r m c.requires.stands).roots in let e = c.drop_page.ensures in
     write-moves r.present r.others m n h e.becomes.shadow e.held e.memory
 
 pub returns-clause-same : goal.returns-clause-same
 returns-clause-same c =
-    let r = c.args.self.now in let m = c.args.ram.now in let n = c.drop_page.new.ram in let h = had (pairs_of r) m c.requires.stands in let e = c.drop_page.ensures in
+    let r = c.args.self.now in let m = c.args.ram.now in let n = c.drop_page.new.ram in let h = (stood r m c.requires.stands).roots in let e = c.drop_page.ensures in
     (refl, write-kept r.present r.others m n h e.becomes.shadow e.held e.memory)
 
 pub returns-clause-told : goal.returns-clause-told

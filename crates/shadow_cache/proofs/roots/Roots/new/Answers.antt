@@ -7,10 +7,16 @@ use Rattle.shadow_cache.proofs.Beside.{no-reads}
 use Rattle.shadow_cache.proofs.Noting.{alone-frames, fresh-roots}
 use Rattle.shadow_cache.proofs.CallSteps.{agree-start}
 use Rattle.shadow_cache.proofs.Openings.{start-has_tables_under}
+use Rattle.shadow_cache.proofs.Listing.{fresh-barred}
 use Rattle.shadow_cache.proofs.roots.Roots.new.Goals as goal
 
 pub returns-clause-stands : goal.returns-clause-stands
-returns-clause-stands c = let e = c.new-present.ensures in merely (fresh-roots c.new-present.result c.in_ok-others.others c.new-present.new.ram c.in_ok-others.ensures e.empty e.tables)
+returns-clause-stands c =
+    let e = c.new-present.ensures in
+    merely (record {
+      roots = fresh-roots c.new-present.result c.in_ok-others.others c.new-present.new.ram c.in_ok-others.ensures e.empty e.tables;
+      barred = fresh-barred (λ frame. get_or c.full-barred.result frame false) c.new-present.result c.in_ok-others.others c.new-present.new.ram c.in_ok-others.ensures e.empty;
+    })
 
 pub returns-clause-owns : goal.returns-clause-owns
 returns-clause-owns c = subst (Owns c.new-present.new.pool c.new-present.new.ram) (sym (alone-frames c.new-present.result c.in_ok-others.others c.new-present.new.ram c.in_ok-others.ensures)) c.new-present.ensures.owns

@@ -1,16 +1,18 @@
 use Rattle.std.proofs.Common.{List, ◌∷◌, subst}
+use Rattle.std.proofs.lemmas.Grind.{merely}
 use Rattle.frame_pool.proofs.Held.{Owns-moves, Moves-trans}
 use Rattle.shadow_cache.specs.Pairs.{frames_of}
 use Rattle.shadow_cache.specs.Switched.{Comes}
-use Rattle.shadow_cache.specs.Roots.{pairs_of}
-use Rattle.shadow_cache.specs.Laws.{had}
+use Rattle.shadow_cache.specs.Roots.{pairs_of, is_barred}
+use Rattle.shadow_cache.specs.Standing.{stood}
 use Rattle.shadow_cache.specs.declared.pair.Pair.{Pair}
 use Rattle.shadow_cache.proofs.Coming.{comes-after, stays-here}
 use Rattle.shadow_cache.proofs.CallSteps.{step-switch}
+use Rattle.shadow_cache.proofs.Listing.{switched-barred}
 use Rattle.shadow_cache.proofs.roots.Roots.switch.Goals as goal
 
 pub put_by-requires : goal.put_by-requires
-put_by-requires c = record { roots = had (pairs_of c.args.self.now) c.args.ram.now c.requires.stands; owns = c.requires.owns }
+put_by-requires c = record { roots = (stood c.args.self.now c.args.ram.now c.requires.stands).roots; owns = c.requires.owns }
 
 pub come-requires-clause-owns : goal.come-requires-clause-owns
 come-requires-clause-owns c =
@@ -22,6 +24,14 @@ returns-clause-switched c =
     let m = c.args.ram.now in let m1 = c.put_by.new.ram in let m2 = c.come.new.ram in
     let a = c.put_by.ensures in
     subst (λ (xs : List Pair). Comes xs qs m m2 c.args.cr3) a.staying (comes-after c.put_by.new.others qs m m1 m2 c.args.cr3 a.kept c.come.ensures.comes)
+
+pub returns-clause-stands : goal.returns-clause-stands
+returns-clause-stands c =
+    let r = c.args.self.now in let s = stood r c.args.ram.now c.requires.stands in let qs : List Pair = c.come.new.present ∷ c.come.new.others in
+    merely (record {
+      roots = c.come.ensures.roots;
+      barred = switched-barred (is_barred r) r.present r.others qs c.args.ram.now c.come.new.ram c.args.cr3 s.barred (returns-clause-switched c);
+    })
 
 pub returns-clause-moves : goal.returns-clause-moves
 returns-clause-moves c =
@@ -40,7 +50,7 @@ returns-clause-told c = λ value calls a.
 pub returns-then-not-self-clause-switched : goal.returns-then-not-self-clause-switched
 returns-then-not-self-clause-switched c =
     let r = c.args.self.now in let m = c.args.ram.now in
-    stays-here r.present r.others m c.args.cr3 (had (pairs_of r) m c.requires.stands).shadows c.if-self-cr3.true c.if-not-self.true
+    stays-here r.present r.others m c.args.cr3 (stood r m c.requires.stands).roots.shadows c.if-self-cr3.true c.if-not-self.true
 
 pub returns-then-not-self-clause-told : goal.returns-then-not-self-clause-told
 returns-then-not-self-clause-told c = λ value calls a.
