@@ -1,14 +1,13 @@
 -- Steps in which a halted processor has nothing to do.
-use Rattle.std.proofs.Common.{◌≡◌, ℕ, zero, suc, ◌+◌, ◌-◌, ◌<◌, Bool, true, false, List, [], ◌∷◌, replicate, None, refl, sym, ap, subst, inl, arith}
+use Rattle.std.proofs.Common.{◌≡◌, ℕ, zero, suc, ◌+◌, ◌-◌, ◌<◌, Bool, false, List, [], ◌∷◌, replicate, refl, sym, ap, subst, inl, arith}
 use Rattle.board.specs.declared.devices.Board.{Board}
 use Rattle.board.specs.Boards.{board_step}
-use Rattle.board.specs.Quiet.{board_steps, comes_within}
+use Rattle.board.specs.Quiet.{board_steps}
 use Rattle.board.proofs.QuietSteps.{no_step}
 use Rattle.descriptors.specs.declared.cpu.Cpu.{Cpu}
 use Rattle.machine_model.specs.State.{Setting, State}
-use Rattle.machine_model.specs.Step.{interrupt_of}
 use Rattle.machine_model.specs.Run.{Set, with_set}
-use Rattle.machine_model.specs.Resting.{IsResting, resting, nothing, HaltedSteps}
+use Rattle.machine_model.specs.Resting.{SleepsThrough, resting, nothing, HaltedSteps}
 use Rattle.paging.specs.Part.{IsPartOf}
 use Rattle.bare_machine.specs.Machine.{Rests, StepsBy, translations_of}
 use Rattle.bare_machine.proofs.Runs.{part_same, no_steps, by_none}
@@ -19,41 +18,40 @@ rests_none s b whole h = record { sets = []; reports = []; left_then = whole; st
 
 module _ (halted : HaltedSteps) where
   -- some steps, each by the translations that are left
-  idle_by : (k : ℕ) (s : Setting) (cpu : Cpu) (ram : List ℕ) (set : Set) (board : Board) (t : ℕ) → IsResting cpu board → comes_within board s.script t (suc k) ≡ false
+  idle_by : (k : ℕ) (s : Setting) (cpu : Cpu) (ram : List ℕ) (set : Set) (board : Board) (t : ℕ) → SleepsThrough cpu board s.script t (suc k)
       → StepsBy s translations_of (resting cpu ram set board (t + 1)) (nothing ∷ replicate k nothing) (resting cpu ram set (board_steps (suc k) board) (t + 1 + suc k))
   unfolding StepsBy board_steps
-  idle_by zero s cpu ram set board t h quiet = (resting cpu ram set (board_step board) (t + 1 + 1), (halted.each s cpu ram board t 0 h quiet).goes set set, refl)
-  idle_by (suc k) s cpu ram set board t h quiet =
-      let now = halted.each s cpu ram board t (suc k) h quiet in
-      let rest = idle_by k s cpu ram set (board_step board) (t + 1) now.rests now.later in (
+  idle_by zero s cpu ram set board t sleeps = (resting cpu ram set (board_step board) (t + 1 + 1), (halted.each s cpu ram board t 0 sleeps).goes set set, refl)
+  idle_by (suc k) s cpu ram set board t sleeps =
+      let now = halted.each s cpu ram board t (suc k) sleeps in
+      let rest = idle_by k s cpu ram set (board_step board) (t + 1) now.later in (
         resting cpu ram set (board_step board) (t + 1 + 1),
         now.goes set set,
         subst (λ (n : ℕ). StepsBy s translations_of (resting cpu ram set (board_step board) (t + 1 + 1)) (nothing ∷ replicate k nothing) (resting cpu ram set (board_steps (suc k) (board_step board)) n)) (omega arith) rest,
       )
 
-  rests_at : (j : ℕ) (s : Setting) (cpu : Cpu) (ram : List ℕ) (whole set : Set) (board : Board) (t : ℕ) → IsResting cpu board → comes_within board s.script t (suc j) ≡ false → IsPartOf set whole
+  rests_at : (j : ℕ) (s : Setting) (cpu : Cpu) (ram : List ℕ) (whole set : Set) (board : Board) (t : ℕ) → SleepsThrough cpu board s.script t (suc j) → IsPartOf set whole
       → Rests s (resting cpu ram set board (t + 1)) whole (resting cpu ram set (board_steps (suc j) board) (t + 1 + suc j))
-  rests_at j s cpu ram whole set board t h quiet part = record {
+  rests_at j s cpu ram whole set board t sleeps part = record {
     sets = set ∷ replicate j set;
     reports = nothing ∷ replicate j nothing;
     left_then = set;
-    steps = halted.all j s cpu ram whole set board t h quiet (record { each = λ page e is. inl (part.each page e is) });
+    steps = halted.all j s cpu ram whole set board t sleeps (record { each = λ page e is. inl (part.each page e is) });
     part = part_same set;
-    exactly = idle_by j s cpu ram set board t h quiet;
+    exactly = idle_by j s cpu ram set board t sleeps;
     silent = halted.silent (suc j);
   }
 
   -- so many steps pass
-  pub rests_some : (k : ℕ) (s : Setting) (b : State) (whole : Set) → 0 < b.step → b.cpu.halted ≡ true → b.cpu.held ≡ false → interrupt_of b.cpu b.board ≡ None
-      → (0 < k → comes_within b.board s.script (b.step - 1) k ≡ false) → IsPartOf b.set whole → Rests s b whole (record b { board = board_steps k b.board; step = b.step + k })
-  rests_some zero s b whole begun is_halted held none quiet part =
+  pub rests_some : (k : ℕ) (s : Setting) (b : State) (whole : Set) → 0 < b.step → (0 < k → b.cpu.held ≡ false) → (0 < k → SleepsThrough b.cpu b.board s.script (b.step - 1) k)
+      → IsPartOf b.set whole → Rests s b whole (record b { board = board_steps k b.board; step = b.step + k })
+  rests_some zero s b whole begun held sleeps part =
       let same : b.step ≡ b.step + 0 = omega arith in
       subst (λ (n : ℕ). Rests s b whole (record b { board = board_steps 0 b.board; step = n })) same
       (subst (λ (d : Board). Rests s b whole (record b { board = d })) (sym (no_step b.board)) (rests_none s b whole part))
-  rests_some (suc j) s b whole begun is_halted held none quiet part =
+  rests_some (suc j) s b whole begun held sleeps part =
       let step_is : b.step - 1 + 1 ≡ b.step = omega arith in
-      let cpu_is : record b.cpu { held = false } ≡ b.cpu = ap (λ (h : Bool). record b.cpu { held = h }) (sym held) in
-      let none_then = subst (λ (c : Cpu). interrupt_of c b.board ≡ None) (sym cpu_is) none in
+      let cpu_is : record b.cpu { held = false } ≡ b.cpu = ap (λ (h : Bool). record b.cpu { held = h }) (sym (held (omega arith))) in
       subst (λ (c : Cpu). Rests s (record b { cpu = c }) whole (record b { cpu = c; board = board_steps (suc j) b.board; step = b.step + suc j })) cpu_is
       (subst (λ (n : ℕ). Rests s (record b { cpu = record b.cpu { held = false }; step = n }) whole (record b { cpu = record b.cpu { held = false }; board = board_steps (suc j) b.board; step = n + suc j })) step_is
-      (rests_at j s b.cpu b.ram whole b.set b.board (b.step - 1) (record { halted = is_halted; none = none_then }) (quiet (omega arith)) part))
+      (rests_at j s b.cpu b.ram whole b.set b.board (b.step - 1) (sleeps (omega arith)) part))

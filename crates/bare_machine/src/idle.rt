@@ -1,7 +1,8 @@
 //! A halted processor that waits.
 
 ghost use Rattle.std.specs.Prelude.{◌≡◌, ◌+◌, ◌-◌, ◌≤◌, ◌<◌, ◌^◌, true, false, None};
-ghost use Rattle.board.specs.Quiet.{comes_within};
+ghost use Rattle.board.specs.Boards.{with_timer_edge};
+ghost use Rattle.board.specs.Quiet.{comes_within, event_within};
 ghost use Rattle.board.specs.ScriptForm.{is_script};
 ghost use Rattle.image_check.specs.Image.{Image};
 ghost use Rattle.machine_model.specs.Run.{Set};
@@ -16,8 +17,7 @@ use machine_model::halted_steps_rest;
 use machine_step::resting_steps;
 use xlate_buffer::Cache;
 
-/// Passes the steps in which a halted processor has nothing to do and nothing can reach the board, up to the bound,
-/// in one go.
+/// Passes the steps in which a halted processor has nothing to do, up to the bound or to what can wake it, in one go.
 #[inline(always)]
 pub fn rest<C: Cache>(machine: &mut BareMachine<C>, script: &Script, n: u64)
     requires script { is_script script.now.list ≡ true }
@@ -32,6 +32,11 @@ pub fn rest<C: Cache>(machine: &mut BareMachine<C>, script: &Script, n: u64)
     ensures furthest { machine.old.cpu.halted ≡ true → machine.old.cpu.held ≡ false
         → interrupt_of machine.old.cpu machine.old.board ≡ None → machine.new.step < n
         → comes_within machine.old.board script.now.list (machine.old.step - 1) (machine.new.step - machine.old.step + 1) ≡ true }
+    // An edge of the timer that doesn't wake the processor ends it nowhere.
+    ensures past_edges { machine.old.cpu.halted ≡ true → machine.old.cpu.held ≡ false
+        → interrupt_of machine.old.cpu machine.old.board ≡ None
+        → interrupt_of machine.old.cpu (with_timer_edge machine.old.board) ≡ None → machine.new.step < n
+        → event_within (machine.old.step - 1) (machine.new.step - machine.old.step + 1) script.now.list ≡ true }
     ensures later { machine.old.step ≤ machine.new.step }
     ensures within { machine.new.step ≤ n }
 {

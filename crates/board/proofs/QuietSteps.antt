@@ -1,14 +1,15 @@
 -- Steps of the board up to the next edge or event.
-use Rattle.std.proofs.Common.{◌≡◌, ℕ, suc, ◌+◌, false, [], ◌∷◌, refl, arith}
-use Rattle.std.specs.Prelude.{◌&&◌, ◌||◌, ◌==◌, nat_lt, nat_le}
+use Rattle.std.proofs.Common.{◌≡◌, ℕ, suc, ◌+◌, Bool, true, false, [], ◌∷◌, refl, ap, ◌∙◌, arith}
+use Rattle.std.specs.Prelude.{◌&&◌, ◌||◌, ◌==◌, nat_lt, nat_le, if◌then◌else◌}
 use Rattle.std.proofs.lemmas.Bool.Decides.{nat_tests}
 use Rattle.std.proofs.lemmas.Bool.{or_parts}
 use Rattle.pit8254.specs.Timers.{edge_comes, timer_step}
 use Rattle.pit8254.specs.Edges.{edge_within}
 use Rattle.board.specs.declared.devices.Board.{Board}
 use Rattle.board.specs.Scripts.{Events}
-use Rattle.board.specs.Boards.{edged, given, board_step, vector}
-use Rattle.board.specs.Quiet.{board_steps, event_within, comes_within, StepsAreQuiet}
+use Rattle.board.specs.Boards.{edged, given, board_step, vector, with_timer_edge}
+use Rattle.board.specs.Quiet.{board_steps, event_within, comes_within, StepsAreQuiet, EventsComeLater, EdgesAreOne}
+use Rattle.board.proofs.Steps.{steps_are}
 
 -- no event in some steps after t: none in the first of them
 given_quiet : (t j : ℕ) (script : Events) → event_within t (suc j) script ≡ false → (board : Board) → given board script (t + 1) ≡ board
@@ -51,3 +52,16 @@ no_step board = refl
 pub one_step : (board : Board) → board_steps 1 board ≡ board_step board
 unfolding board_steps
 one_step board = refl
+
+pub events_later : EventsComeLater
+events_later script t j h = record { no_event = given_quiet t j script h; later = quiet_later t j script h }
+
+-- an edge, or none
+edge_or_none : (board : Board) (comes : Bool) → vector (record board { pics = edged board.pics 0 comes }) ≡ (if comes then vector (with_timer_edge board) else vector board)
+unfolding vector edged
+edge_or_none board true = refl
+edge_or_none board false = refl
+
+pub edges_are_one : EdgesAreOne
+unfolding vector
+edges_are_one k board = ap vector (steps_are k board) ∙ edge_or_none board (edge_within k board.pit)

@@ -1,5 +1,5 @@
 -- One step of the board, what reaches it from outside, and the interrupt that it requests.
-use Rattle.std.specs.Prelude.{ℕ, Bool, ◌&&◌, not, ◌==◌, [], ◌∷◌, Option, if◌then◌else◌}
+use Rattle.std.specs.Prelude.{ℕ, Bool, true, ◌&&◌, not, ◌==◌, [], ◌∷◌, Option, if◌then◌else◌}
 use Rattle.pic8259.specs.Chips.{unstarted}
 use Rattle.pic8259.specs.Pairs.{with_edge, vector as pics_vector, acknowledged as pics_acknowledged}
 use Rattle.pic8259.specs.declared.pics.Pics.{Pics}
@@ -25,6 +25,10 @@ at_reset = record { pics = record { master = unstarted; slave = unstarted }; pit
 -- an edge at a line, where there is one
 unfoldable pub edged : Pics → ℕ → Bool → Pics
 edged pics line comes = if comes then with_edge pics line else pics
+
+-- with an edge of the timer
+abbrev pub with_timer_edge : Board → Board
+with_timer_edge board = record board { pics = edged board.pics timer_line true }
 
 -- one step of the board: that of the timer, whose edge is line 0's
 unfoldable pub board_step : Board → Board

@@ -1,9 +1,9 @@
 -- Steps of the board, how soon something reaches it, and steps in which nothing does.
-use Rattle.std.specs.Prelude.{◌≡◌, ℕ, zero, suc, ◌+◌, Bool, false, ◌&&◌, ◌||◌, nat_lt, nat_le, [], ◌∷◌}
+use Rattle.std.specs.Prelude.{◌≡◌, ℕ, zero, suc, ◌+◌, Bool, false, ◌&&◌, ◌||◌, nat_lt, nat_le, [], ◌∷◌, if◌then◌else◌}
 use Rattle.pit8254.specs.Edges.{edge_within}
 use Rattle.board.specs.declared.devices.Board.{Board}
 use Rattle.board.specs.Scripts.{Events}
-use Rattle.board.specs.Boards.{given, board_step, vector}
+use Rattle.board.specs.Boards.{given, board_step, vector, with_timer_edge}
 
 -- k steps
 unfoldable pub board_steps : ℕ → Board → Board
@@ -29,3 +29,16 @@ pub record IsQuiet (board : Board) (script : Events) (t j : ℕ) : Type 0 where
 -- so is each step up to the next edge or event
 abbrev pub StepsAreQuiet : Type 0
 StepsAreQuiet = (board : Board) (script : Events) (t j : ℕ) → comes_within board script t (suc j) ≡ false → IsQuiet board script t j
+
+-- The first step after t has no event, whatever the board then is, and none comes in the j steps after it.
+pub record NoneReaches (script : Events) (t j : ℕ) : Type 0 where
+  pub no_event : (any : Board) → given any script (t + 1) ≡ any
+  pub later : event_within (t + 1) j script ≡ false
+
+-- so is each step up to the next event
+abbrev pub EventsComeLater : Type 0
+EventsComeLater = (script : Events) (t j : ℕ) → event_within t (suc j) script ≡ false → NoneReaches script t j
+
+-- However many edges of the timer come, the vector that would be delivered is the one after a single edge.
+abbrev pub EdgesAreOne : Type 0
+EdgesAreOne = (k : ℕ) (board : Board) → vector (board_steps k board) ≡ (if edge_within k board.pit then vector (with_timer_edge board) else vector board)

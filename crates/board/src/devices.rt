@@ -2,7 +2,7 @@
 
 ghost use Rattle.std.specs.Prelude.{◌≡◌, ◌<◌, false, true, not, ◌&&◌, Some, IsSome};
 ghost use Rattle.board.specs.ScriptForm.{event_fits, is_script};
-ghost use Rattle.board.specs.Boards.{at_reset, serial_line, edged, with_uart, happened, given, vector, acknowledged};
+ghost use Rattle.board.specs.Boards.{at_reset, serial_line, edged, with_uart, happened, given, vector, acknowledged, with_timer_edge};
 ghost use Rattle.board.specs.Quiet.{board_steps, comes_within};
 ghost use Rattle.ia32_types.specs.Firsts.{IsFirst};
 ghost use Rattle.uart16550.specs.Ports.{written as serial_written, interrupt_line};
@@ -188,6 +188,14 @@ impl Board {
         ensures { result ≡ vector self.now }
     {
         self.pics.pending()
+    }
+
+    /// The vector that would be delivered after an edge of the timer.
+    #[tactic(auto, unfolding(crate::specs::Boards::vector, crate::specs::Boards::edged))]
+    pub fn pending_after_edge(&self) -> Option<u8>
+        ensures { result ≡ vector (with_timer_edge self.now) }
+    {
+        self.pics.pending_after(TIMER_LINE)
     }
 
     /// Acknowledges the interrupt that is pending, and gives its vector.

@@ -22,7 +22,7 @@ use Rattle.guest_sched.specs.Admitting.{HasBegun, first_seat}
 use Rattle.guest_sched.specs.declared.kernel.Kernel.{Kernel}
 use Rattle.guest_sched.proofs.Fronts.{front_put, front_front, behind_front}
 
-module _ (kernel : Kernel) (frames : ℕ) (ram host between : List ℕ) (fits : need kernel.image ≤ frames) (front : take (frames * 4096) ram ≡ boot_ram kernel.image frames) (len : length ram ≡ frames * 4096)
+module _ (kernel : Kernel) (frames : ℕ) (ram host between : List ℕ) (fits : need kernel.image ≤ frames) (front : take (frames * 4096) ram ≡ boot_ram kernel.image frames) (len : frames * 4096 ≤ length ram)
     (is : between ≡ with_part host 0 (part ram 0 (4096 * frames)))
   where
     room : 4096 * frames ≤ length ram

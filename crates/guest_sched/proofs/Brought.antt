@@ -78,9 +78,9 @@ apart_first frames pool host host' present present' (t ∷ ts) ts' k ks same siz
 
 module _ (frames : ℕ) (host mid last : List ℕ) (present kernel : ℕ) (tenants left both : List Tenant) (d a b : Tenant) (differ : kernel ≢ present) (known : kernel < length tenants) (there : present < length tenants)
     (theirs : All (λ (t : Tenant). 4096 * frames ≤ length t.ram) tenants) (room : 4096 * frames ≤ length host)
-    (left_is : left ≡ set tenants present a) (a_ram : a.ram ≡ with_part (get_or tenants present d).ram 0 (part host 0 (4096 * frames))) (a_guest : a.guest ≡ (get_or tenants present d).guest) (a_stop : a.stop ≡ (get_or tenants present d).stop)
+    (left_is : left ≡ set tenants present a) (a_front : take (4096 * frames) a.ram ≡ take (4096 * frames) host) (a_len : length a.ram ≡ length (get_or tenants present d).ram) (a_guest : a.guest ≡ (get_or tenants present d).guest) (a_stop : a.stop ≡ (get_or tenants present d).stop)
     (mid_is : mid ≡ with_part host 0 (part (get_or tenants present d).ram 0 (4096 * frames)))
-    (both_is : both ≡ set left kernel b) (b_ram : b.ram ≡ with_part (get_or left kernel d).ram 0 (part mid 0 (4096 * frames))) (b_guest : b.guest ≡ (get_or left kernel d).guest) (b_stop : b.stop ≡ (get_or left kernel d).stop)
+    (both_is : both ≡ set left kernel b) (b_len : length b.ram ≡ length (get_or left kernel d).ram) (b_guest : b.guest ≡ (get_or left kernel d).guest) (b_stop : b.stop ≡ (get_or left kernel d).stop)
     (last_is : last ≡ with_part mid 0 (part (get_or left kernel d).ram 0 (4096 * frames)))
   where
     x : Tenant
@@ -106,24 +106,22 @@ module _ (frames : ℕ) (host mid last : List ℕ) (present kernel : ℕ) (tenan
 
     last_comes : last ≡ take (4096 * frames) y.ram ++ drop (4096 * frames) host
     unfolding x y
-    last_comes = comes (4096 * frames) host mid last x.ram y.ram a.ram room x_room y_room mid_is a_ram last_y
+    last_comes = comes (4096 * frames) host mid last x.ram y.ram a.ram x_room y_room mid_is a_front last_y
 
     last_behind : drop (4096 * frames) last ≡ drop (4096 * frames) host
     unfolding x y
-    last_behind = behind_stays (4096 * frames) host mid last x.ram y.ram a.ram room x_room y_room mid_is a_ram last_y
+    last_behind = behind_stays (4096 * frames) host mid last x.ram y.ram a.ram x_room y_room mid_is a_front last_y
 
     last_leaves : take (4096 * frames) a.ram ++ drop (4096 * frames) last ≡ host
     unfolding x y
-    last_leaves = leaves (4096 * frames) host mid last x.ram y.ram a.ram room x_room y_room mid_is a_ram last_y
+    last_leaves = leaves (4096 * frames) host mid last x.ram y.ram a.ram x_room y_room mid_is a_front last_y
 
     last_size : length last ≡ length host
     last_size = ap length last_comes ∙ omega (arith, length-append (take (4096 * frames) y.ram) (drop (4096 * frames) host), length-take-le (4096 * frames) y.ram y_room, length-drop (4096 * frames) host, room)
 
     a_room : 4096 * frames ≤ length a.ram
     unfolding x
-    a_room =
-        let e = ap length (a_ram ∙ front_put (4096 * frames) x.ram host room) in
-        omega (arith, e, length-append (take (4096 * frames) host) (drop (4096 * frames) x.ram), length-take-le (4096 * frames) host room)
+    a_room = (let e : length a.ram ≡ length x.ram = a_len in omega (arith, e, x_room))
 
     mid_size : length mid ≡ length host
     unfolding x
@@ -135,9 +133,7 @@ module _ (frames : ℕ) (host mid last : List ℕ) (present kernel : ℕ) (tenan
     mid_room = omega (arith, mid_size, room)
 
     b_room : 4096 * frames ≤ length b.ram
-    b_room =
-        let e = ap length (b_ram ∙ front_put (4096 * frames) (get_or left kernel d).ram mid mid_room) in
-        omega (arith, e, length-append (take (4096 * frames) mid) (drop (4096 * frames) (get_or left kernel d).ram), length-take-le (4096 * frames) mid mid_room)
+    b_room = (let e = ap (λ (t : Tenant). length t.ram) y_left in omega (arith, b_len, e, y_room))
 
     len_left : length left ≡ length tenants
     len_left = ap length left_is ∙ length-set tenants present a
@@ -229,12 +225,6 @@ any_of [] k l = absurd (omega (arith, l))
 any_of (t ∷ ts) k l = t
 
 -- what an exchange leaves of the list
-pub first_room : (frames : ℕ) (host : List ℕ) (present : ℕ) (tenants : List Tenant) (d a : Tenant) → present < length tenants → 4096 * frames ≤ length host
-    → a.ram ≡ with_part (get_or tenants present d).ram 0 (part host 0 (4096 * frames)) → 4096 * frames ≤ length a.ram
-first_room frames host present tenants d a there room a_ram =
-    let e = ap length (a_ram ∙ front_put (4096 * frames) (get_or tenants present d).ram host room) in
-    omega (arith, e, length-append (take (4096 * frames) host) (drop (4096 * frames) (get_or tenants present d).ram), length-take-le (4096 * frames) host room)
-
 pub left_rooms : (frames : ℕ) (present : ℕ) (tenants left : List Tenant) (a : Tenant) → present < length tenants → left ≡ set tenants present a → 4096 * frames ≤ length a.ram
     → All (λ (t : Tenant). 4096 * frames ≤ length t.ram) tenants → All (λ (t : Tenant). 4096 * frames ≤ length t.ram) left
 left_rooms frames present tenants left a there left_is room theirs j e l = elim (eqb_tells j present) [

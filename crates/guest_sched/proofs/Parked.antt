@@ -11,11 +11,11 @@ use Rattle.guest_sched.specs.Admitting.{HasParked}
 use Rattle.guest_sched.specs.declared.kernel.Kernel.{Kernel}
 use Rattle.guest_sched.specs.declared.tenants.Tenant.{Tenant}
 use Rattle.guest_sched.proofs.Brought.{mem_of, same_seat, same_seats}
-use Rattle.guest_sched.proofs.Fronts.{front_put, behind_front, front_front}
+use Rattle.guest_sched.proofs.Fronts.{front_put, behind_front}
 
 module _ (frames : ℕ) (host last : List ℕ) (present : ℕ) (tenants left : List Tenant) (d a : Tenant) (there : present < length tenants)
     (theirs : All (λ (t : Tenant). 4096 * frames ≤ length t.ram) tenants) (room : 4096 * frames ≤ length host)
-    (left_is : left ≡ set tenants present a) (a_ram : a.ram ≡ with_part (get_or tenants present d).ram 0 (part host 0 (4096 * frames))) (a_guest : a.guest ≡ (get_or tenants present d).guest) (a_stop : a.stop ≡ (get_or tenants present d).stop)
+    (left_is : left ≡ set tenants present a) (a_front : take (4096 * frames) a.ram ≡ take (4096 * frames) host) (a_len : length a.ram ≡ length (get_or tenants present d).ram) (a_guest : a.guest ≡ (get_or tenants present d).guest) (a_stop : a.stop ≡ (get_or tenants present d).stop)
     (last_is : last ≡ with_part host 0 (part (get_or tenants present d).ram 0 (4096 * frames)))
   where
     x_room : 4096 * frames ≤ length (get_or tenants present d).ram
@@ -27,13 +27,9 @@ module _ (frames : ℕ) (host last : List ℕ) (present : ℕ) (tenants left : L
     behind : drop (4096 * frames) last ≡ drop (4096 * frames) host
     behind = ap (drop (4096 * frames)) last_comes ∙ behind_front (4096 * frames) (get_or tenants present d).ram (drop (4096 * frames) host) x_room
 
-    a_is : a.ram ≡ take (4096 * frames) host ++ drop (4096 * frames) (get_or tenants present d).ram
-    a_is = a_ram ∙ front_put (4096 * frames) (get_or tenants present d).ram host room
-
     leaves : take (4096 * frames) a.ram ++ drop (4096 * frames) last ≡ host
     leaves =
-        ap (λ (z : List ℕ). take (4096 * frames) z ++ drop (4096 * frames) last) a_is
-        ∙ ap (λ (z : List ℕ). z ++ drop (4096 * frames) last) (front_front (4096 * frames) host (drop (4096 * frames) (get_or tenants present d).ram) room)
+        ap (λ (z : List ℕ). z ++ drop (4096 * frames) last) a_front
         ∙ ap (λ (z : List ℕ). take (4096 * frames) host ++ z) behind
         ∙ take-append-drop (4096 * frames) host
 
@@ -68,8 +64,7 @@ module _ (frames : ℕ) (host last : List ℕ) (present : ℕ) (tenants left : L
     rooms j e l = elim (eqb_tells j present) [
       | inl t ↦
           (let g = ap (λ (z : Tenant). length z.ram) (ap (λ i. get_or left i e) t.1 ∙ ap (λ l. get_or l present e) left_is ∙ get_or-set_same tenants present a e there) in
-          let n = ap length a_is in
-          omega (arith, g, n, length-append (take (4096 * frames) host) (drop (4096 * frames) (get_or tenants present d).ram), length-take-le (4096 * frames) host room))
+          omega (arith, g, a_len, x_room))
       | inr o ↦
           (let g = ap (λ (z : Tenant). length z.ram) (ap (λ l. get_or l j e) left_is ∙ get_or-set_other tenants present j a e o.1) in
           let t = theirs j e (omega (arith, l, len)) in omega (arith, g, t))

@@ -1,5 +1,5 @@
 -- One turn more: what is said of lists of turns goes on by what is said of it.
-use Rattle.std.proofs.Common.{◌≡◌, ◌≢◌, inl, inr, ℕ, ◌+◌, ◌==◌, ◌&&◌, ◌||◌, Bool, true, false, List, [], ◌∷◌, ◌++◌, None, is_some, refl, ap, sym, subst, ◌∙◌, append_assoc, append-nil}
+use Rattle.std.proofs.Common.{◌≡◌, ◌≢◌, inl, inr, ℕ, ◌+◌, ◌==◌, ◌&&◌, ◌||◌, Bool, true, false, List, [], ◌∷◌, ◌++◌, is_some, refl, ap, sym, subst, ◌∙◌, append_assoc, append-nil}
 use Rattle.std.specs.List.{flat_map}
 use Rattle.std.proofs.lemmas.Bool.Decides.{eqb_tells}
 use Rattle.std.proofs.Math.Bool.{or-false}
@@ -9,7 +9,7 @@ use Rattle.machine_model.specs.Counts.{direct_count, passed_digest}
 use Rattle.sites.specs.declared.site.Site.{Site}
 use Rattle.wedge_core.specs.Slices.{Counts}
 use Rattle.shadow_cache.proofs.Beside.{or-less}
-use Rattle.guest_sched.specs.Pieces.{Piece, has_stopped, IsTurn, AreTurns, stop_line, piece_text, reports_of, own_text, counts_over}
+use Rattle.guest_sched.specs.Pieces.{Piece, has_stopped, IsTurn, AreTurns, stop_line, reports_of, own_text, counts_over}
 use Rattle.guest_sched.specs.declared.schedule.Slice.{Slice}
 
 pub flat_append : {X Y : Type 0} (f : X → List Y) (xs ys : List X) → flat_map f (xs ++ ys) ≡ flat_map f xs ++ flat_map f ys

@@ -68,7 +68,7 @@ pub record MayBegin (kernel : Kernel) (frames : ℕ) (cpu : Cpu) (ram : List ℕ
   pub fits : need kernel.image ≤ frames
   pub cpu_is : cpu ≡ boot_cpu kernel.image frames
   pub front : take (frames * 4096) ram ≡ boot_ram kernel.image frames
-  pub len : length ram ≡ frames * 4096
+  pub len : frames * 4096 ≤ length ram
   pub size : length host ≡ 4096 * (frames + 512)
   pub pool_is : (base_of pool ≡ frames) × (count_of pool ≡ 512)
   pub stands : Stands pool host

@@ -5,7 +5,6 @@ use Rattle.frame_pool.specs.Pool.{count_of, free_list}
 use Rattle.frame_pool.specs.declared.Pool.{Pool}
 use Rattle.shadow_cache.specs.Views as roots
 use Rattle.wedge_step.specs.Pools.{Keeps}
-use Rattle.guest_ram.specs.Bytes.{part, with_part}
 use Rattle.guest_sched.specs.Apart.{Seat, IsSeated, MayGoOn, AreApart, EachStays}
 use Rattle.guest_sched.specs.Dropped.{AllDropped}
 use Rattle.guest_sched.specs.Stages.{Stage}
@@ -35,7 +34,7 @@ seats_from frames host present i (kernel ∷ kernels) (tenant ∷ tenants) = sea
 abbrev pub HasExchanged : ℕ → List ℕ → ℕ → List Tenant → List Tenant → Type 0
 HasExchanged frames host kernel tenants tenants' =
     (d : Tenant) → (new : Tenant) × (tenants' ≡ slice_set tenants kernel new)
-    × (new.ram ≡ with_part (slice_index_or tenants kernel d).ram 0 (part host 0 (4096 * frames)))
+    × (take (4096 * frames) new.ram ≡ take (4096 * frames) host) × (length new.ram ≡ length (slice_index_or tenants kernel d).ram)
     × (new.guest ≡ (slice_index_or tenants kernel d).guest) × (new.stop ≡ (slice_index_or tenants kernel d).stop)
 
 -- Another kernel stands in the host's memory: all are as they were, wherever their memory is.

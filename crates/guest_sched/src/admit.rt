@@ -8,6 +8,7 @@ ghost use Rattle.guest_sched.specs.Between.{AdmitsAs};
 ghost use Rattle.guest_sched.specs.declared.kernel.Kernel.{Kernel};
 ghost use Rattle.guest_sched.specs.declared.tenants.Tenant.{Tenant};
 
+use crate::exchange::exchange_fronts;
 use crate::kernel::{Kernel, SharedFault};
 use crate::tenants::{Tenant, Tenants};
 use board::Board;
@@ -48,7 +49,7 @@ fn to_front<H: Host>(ram: &mut Ram, frames: u32, host: &mut H)
     ensures retired { H.retired host.new ≡ H.retired host.old }
     ensures passed { H.passed host.new ≡ H.passed host.old }
 {
-    host.ram_mut().exchange(ram, frames);
+    exchange_fronts(host.ram_mut(), ram, frames);
 }
 
 /// Puts a kernel's memory, as it starts, to the front of the host's, in exchange for what stands there, and makes its
@@ -138,7 +139,7 @@ impl Tenants {
         ensures retired { H.retired host.new ≡ H.retired host.old }
         ensures passed { H.passed host.new ≡ H.passed host.old }
     {
-        let mut ram = room(alloc, self.frames)?;
+        let mut ram = room(alloc, self.frames + POOL)?;
         let cpu = match load(&kernel.image, &mut ram, self.frames) {
             Err(small) => return Err(SharedFault::TooSmall(small)),
             Ok(boot) => boot.cpu,

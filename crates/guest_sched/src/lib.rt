@@ -2,6 +2,7 @@
 #![tactic(auto)]
 
 mod admit;
+mod exchange;
 mod fault;
 mod finish;
 mod kernel;

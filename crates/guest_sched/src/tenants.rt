@@ -1,6 +1,6 @@
 //! Kernels that share a host: who stands in its memory, and the frames of the pool that they hold.
 
-ghost use Rattle.std.specs.Prelude.{◌≡◌, ◌*◌, ◌≤◌, ◌<◌, length, slice_index_or, true};
+ghost use Rattle.std.specs.Prelude.{◌≡◌, ◌*◌, ◌≤◌, ◌<◌, length, slice_index_or, take, true};
 ghost use Rattle.std.specs.List.{All};
 ghost use Rattle.guest_ram.specs.Bytes.{part, with_part};
 ghost use Rattle.frame_pool.specs.Held.{Owns};
@@ -11,6 +11,7 @@ ghost use Rattle.guest_sched.specs.Seating.{HasBrought, HasExchanged, HasMadeRoo
 ghost use Rattle.guest_sched.specs.Stages.{stage};
 ghost use Rattle.guest_sched.specs.declared.tenants.Tenant.{Tenant};
 
+use crate::exchange::exchange_fronts;
 use frame_pool::Pool;
 use guest_ram::Ram;
 use host_cpl3::Host;
@@ -34,7 +35,7 @@ impl Tenant {
         requires started { H.is_started host.old ≡ true }
         requires mine { 4096 * frames ≤ length self.old.ram }
         requires room { 4096 * frames ≤ length (H.bytes host.old) }
-        ensures mine { self.new.ram ≡ with_part self.old.ram 0 (part (H.bytes host.old) 0 (4096 * frames)) }
+        ensures front { take (4096 * frames) self.new.ram ≡ take (4096 * frames) (H.bytes host.old) }
         ensures host { H.bytes host.new ≡ with_part (H.bytes host.old) 0 (part self.old.ram 0 (4096 * frames)) }
         ensures len { length self.new.ram ≡ length self.old.ram }
         ensures size { length (H.bytes host.new) ≡ length (H.bytes host.old) }
@@ -44,7 +45,7 @@ impl Tenant {
         ensures retired { H.retired host.new ≡ H.retired host.old }
         ensures passed { H.passed host.new ≡ H.passed host.old }
     {
-        host.ram_mut().exchange(&mut self.ram, frames);
+        exchange_fronts(host.ram_mut(), &mut self.ram, frames);
     }
 }
 

@@ -5,3 +5,4 @@ pub mod Fetched
 pub mod Used
 pub mod Rooted
 pub mod Raising
+pub mod Sleeping

@@ -128,6 +128,17 @@ impl Pics {
         Some(self.pair.master.base + level)
     }
 
+    /// The vector that would be delivered after a rising edge at a line, of which 8 to 15 are the slave's.
+    pub fn pending_after(&self, line: u8) -> Option<u8>
+        requires within { line < 16 }
+        requires no_cascade { line ≢ 2 }
+        ensures { result ≡ vector (with_edge self.now line) }
+    {
+        let mut after = Pics { pair: self.pair };
+        after.edge(line);
+        after.pending()
+    }
+
     /// Acknowledges the interrupt that is pending, and gives its vector.
     #[tactic(auto, unfolding(crate::specs::Pairs::vector, crate::specs::Pairs::acknowledged))]
     pub fn acknowledge(&mut self) -> u8

@@ -238,6 +238,19 @@ site 00 00 00 00 03 02 05 00
 $ store B
 $ runs 0 1099511627776
 end steps 1099511627776
+$ : IF 0 and an edge of the timer every 16 steps; hlt: a processor that no edge wakes costs no time either
+$ image 0
+text b0 34 e6 43 90 90 90 b0 02 e6 40 90 90 90 b0 00 e6 40 90 90 90 f4 90 90 90 90 eb fe
+site 02 00 00 00 14 02 05 00
+site 09 00 00 00 14 02 05 00
+site 10 00 00 00 14 02 05 00
+site 15 00 00 00 04 01 05 00
+$ store B
+$ runs 0 1099511627776
+1 out8 0043 34
+6 out8 0040 02
+11 out8 0040 00
+end steps 1099511627776
 ";
 
 /// Code at level 3: what it may not do, and the gates that it may use.

@@ -1,4 +1,4 @@
-use Rattle.std.proofs.Common.{◌≡◌, ◌+◌, ◌-◌, ◌<◌, arith}
+use Rattle.std.proofs.Common.{◌≡◌, ◌+◌, ◌-◌, arith}
 use Rattle.bare_machine.specs.Machine.{state_of}
 use Rattle.bare_machine.specs.Settings.{bare}
 use Rattle.bare_machine.proofs.Resting.{rests_none, rests_some}
@@ -11,9 +11,7 @@ pub returns-then-k-gt0-clause-rests : goal.returns-then-k-gt0-clause-rests
 returns-then-k-gt0-clause-rests g c = λ image whole part.
     let m = c.args.machine.now in
     let s = bare image c.args.script.now.list m.frames in
-    let some : 0 < c.resting_steps-k.result = omega (arith, c.if-k-gt0.true) in
-    let is = c.resting_steps-k.ensures.rests some in
-    rw c.advance.ensures (rests_some c.halted_steps_rest.ensures c.resting_steps-k.result s (state_of g.C.Cache.entries m) whole c.requires.begun is.0 is.1 is.2 c.resting_steps-k.ensures.quiet part)
+    rw c.advance.ensures (rests_some c.halted_steps_rest.ensures c.resting_steps-k.result s (state_of g.C.Cache.entries m) whole c.requires.begun c.resting_steps-k.ensures.held c.resting_steps-k.ensures.sleeps part)
 
 pub returns-else-k-gt0-clause-furthest : goal.returns-else-k-gt0-clause-furthest
 returns-else-k-gt0-clause-furthest g c = λ halted held none less.
@@ -26,3 +24,15 @@ returns-then-k-gt0-clause-furthest g c = λ halted held none less.
     let step = c.args.machine.now.step in
     let same : (step + c.resting_steps-k.result) - step ≡ c.resting_steps-k.result = omega arith in
     rw same (c.resting_steps-k.ensures.furthest halted held none (omega (arith, less)))
+
+pub returns-else-k-gt0-clause-past_edges : goal.returns-else-k-gt0-clause-past_edges
+returns-else-k-gt0-clause-past_edges g c = λ halted held none asleep less.
+    let step = c.args.machine.now.step in
+    let same : step - step ≡ c.resting_steps-k.result = omega (arith, c.if-k-gt0.false) in
+    rw same (c.resting_steps-k.ensures.past_edges halted held none asleep (omega (arith, less, c.if-k-gt0.false)))
+
+pub returns-then-k-gt0-clause-past_edges : goal.returns-then-k-gt0-clause-past_edges
+returns-then-k-gt0-clause-past_edges g c = λ halted held none asleep less.
+    let step = c.args.machine.now.step in
+    let same : (step + c.resting_steps-k.result) - step ≡ c.resting_steps-k.result = omega arith in
+    rw same (c.resting_steps-k.ensures.past_edges halted held none asleep (omega (arith, less)))

@@ -1,5 +1,4 @@
 use Rattle.std.proofs.Common.{refl, ap, subst}
-use Rattle.shadow_cache.specs.Views as roots
 use Rattle.shadow_cache.specs.declared.roots.Roots.{Roots}
 use Rattle.wedge_core.specs.OfRoots.{of_roots}
 use Rattle.wedge_step.specs.Filled.{WereFilled, pages_kept}

@@ -3,7 +3,7 @@ use Rattle.std.specs.List.{All}
 use Rattle.std.proofs.lemmas.List.{length-set}
 use Rattle.guest_ram.specs.Bytes.{part, with_part}
 use Rattle.guest_sched.specs.declared.tenants.Tenant.{Tenant}
-use Rattle.guest_sched.proofs.Brought.{any_of, first_room, left_rooms, left_size, brought}
+use Rattle.guest_sched.proofs.Brought.{any_of, left_rooms, left_size, brought}
 use Rattle.guest_sched.proofs.tenants.Tenants.bring.Goals as goal
 
 pub exchange-requires-2-clause-known : goal.exchange-requires-2-clause-known
@@ -21,7 +21,9 @@ exchange-requires-2-clause-theirs g c =
     let e = c.exchange.ensures.list d in
     subst (λ (f : ℕ). All (λ (t : Tenant). 4096 * f ≤ length t.ram) c.exchange.new.self.list.items) (sym c.exchange.ensures.rest.1)
     (left_rooms old.frames old.present old.list.items c.exchange.new.self.list.items e.0 c.requires.present e.1
-    (first_room old.frames (g.H.Host.bytes c.args.host.now) old.present old.list.items d e.0 c.requires.present c.requires.room e.2) c.requires.theirs)
+    (let n : length e.0.ram ≡ length (get_or old.list.items old.present d).ram = e.3 in
+    let there : 4096 * old.frames ≤ length (get_or old.list.items old.present d).ram = c.requires.theirs old.present d c.requires.present in
+    omega (arith, n, there)) c.requires.theirs)
 
 pub exchange-requires-2-clause-room : goal.exchange-requires-2-clause-room
 exchange-requires-2-clause-room g c =
@@ -44,6 +46,6 @@ returns-clause-brought g c =
     let same : left.frames ≡ old.frames = c.exchange.ensures.rest.1 in
     brought old.frames host mid (g.H.Host.bytes c.exchange-2.new.host) old.present c.args.kernel old.list.items left.list.items both.list.items d a.0 b.0
     c.if-kernel-self.false c.requires.known c.requires.present c.requires.theirs c.requires.room
-    a.1 a.2 a.3 a.4 (c.exchange.ensures.host d)
-    b.1 (b.2 ∙ ap (λ (f : ℕ). with_part (get_or left.list.items c.args.kernel d).ram 0 (part mid 0 (4096 * f))) same) b.3 b.4
+    a.1 a.2 a.3 a.4 a.5 (c.exchange.ensures.host d)
+    b.1 b.3 b.4 b.5
     (c.exchange-2.ensures.host d ∙ ap (λ (f : ℕ). with_part mid 0 (part (get_or left.list.items c.args.kernel d).ram 0 (4096 * f))) same)

@@ -11,7 +11,7 @@ returns-then-present-len-clause-parked g c =
     let d = any_of old.list.items old.present there in
     let a = c.exchange.ensures.list d in
     parked old.frames (g.H.Host.bytes c.args.host.now) (g.H.Host.bytes c.exchange.new.host) old.present old.list.items left.list.items d a.0 there
-    c.requires.theirs c.requires.room a.1 a.2 a.3 a.4 (c.exchange.ensures.host d)
+    c.requires.theirs c.requires.room a.1 a.2 a.3 a.4 a.5 (c.exchange.ensures.host d)
 
 pub returns-else-present-len-clause-parked : goal.returns-else-present-len-clause-parked
 returns-else-present-len-clause-parked g c =
