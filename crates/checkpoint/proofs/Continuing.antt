@@ -15,35 +15,50 @@ use Rattle.machine_model.proofs.Ending.{each_ends}
 use Rattle.machine_model.proofs.Texts.{text_join}
 use Rattle.machine_model.proofs.Runs.{steps_join}
 use Rattle.bare_machine.specs.Answers.{RunsTo}
-use Rattle.wedge_core.specs.Promises.{HasFills, HasMemory, with_patches}
+use Rattle.wedge_core.specs.Promises.{HasFills, with_patches}
 use Rattle.wedge_core.specs.Slices.{Filling, Noting, Outward, SliceAs}
-use Rattle.wedge_core.proofs.WholeRuns.{text_is, ends_by, count_by, memory_by}
+use Rattle.machine_model.specs.Joined.{KeptBefore}
+use Rattle.wedge_core.proofs.WholeRuns.{text_is, ends_by, count_by, memory_by, kept_by}
 use Rattle.checkpoint.specs.Continued.{PromiseFrom}
 use Rattle.checkpoint.proofs.Filling.{filled_in}
 
+-- what is so where all lines and the last one were put, of a run with this end
+abbrev pub WentOn : Setting → ℕ → State → Outward → Option (List ℕ) → ℕ → ℕ → List ℕ → ℕ → End → ℕ → Type 0
+WentOn m n old out c before now memory steps end fills =
+    (text : List ℕ) × (run : PromiseFrom m n old text steps end out.before out.after memory) × Appends out.told c text
+    × (now ≡ before) × HasFills m run.sets run.last fills
+
 module _ {m : Setting} {n : ℕ} {old new : State} {out : Outward} {filling : Filling} {noting : Noting} {begins : Type 0} where
-  -- all lines and the last one were put
-  pub went_on : (c : Option (List ℕ)) (pause : Pause) (before mid now : ℕ) (memory : List ℕ) (steps : ℕ) (end : End) (fills : ℕ)
-      → fills ≡ filling.filled → filling.pages ≤ filling.fills → filling.filled ≤ 128 * new.step → steps ≡ new.step → end ≡ end_of pause → IfReached (Ok pause) (take (4096 * m.frames) memory ≡ with_patches m.image new.ram)
-      → SliceAs m n old new out filling noting begins (Ok pause) → Appends out.tells c (end_line steps end) → mid ≡ before → now ≡ mid
-      → (text : List ℕ) × (run : PromiseFrom m n old text steps end out.before out.after memory) × Appends out.told c text × (now ≡ before)
-      × HasFills m run.sets run.last fills
-  went_on c pause before mid now memory steps end fills fills_is were few steps_is end_is has h put same more = (
-    lines_of (trace_of h.reports) ++ end_line steps end,
+  went_to : KeptBefore → begins → (c : Option (List ℕ)) (pause : Pause) (before mid now : ℕ) (memory : List ℕ) (steps fills : ℕ)
+      → fills ≡ filling.filled → filling.pages ≤ filling.fills → filling.filled ≤ 128 * new.step → steps ≡ new.step → IfReached (Ok pause) (take (4096 * m.frames) memory ≡ with_patches m.image new.ram)
+      → SliceAs m n old new out filling noting begins (Ok pause) → Appends out.tells c (end_line steps (end_of pause)) → mid ≡ before → now ≡ mid
+      → WentOn m n old out c before now memory steps (end_of pause) fills
+  went_to law bare c pause before mid now memory steps fills fills_is were few steps_is has h put same more = (
+    lines_of (trace_of h.reports) ++ end_line steps (end_of pause),
     record {
       sets = h.sets;
       reports = h.reports;
       last = h.last;
-      run = record { steps = h.steps; ends = subst (λ (e : End). EndsIn m n h.last e) (sym end_is) (ends_by m n h.last new h.end pause h.ends) };
+      run = record { steps = h.steps; ends = ends_by m n h.last new h.end pause h.ends };
       count_is = steps_is ∙ count_by m n h.last new h.end pause h.ends;
-      text_is = text_is h.reports steps end;
+      text_is = text_is h.reports steps (end_of pause);
       counts = h.counts;
-      memory_is = subst (λ (e : End). HasMemory m h.last e memory) (sym end_is) (memory_by m n h.last new h.end pause memory has h.ends);
+      memory_is = memory_by m n h.last new h.end pause memory has h.ends;
+      kept = kept_by law m n old h.last new h.sets h.end pause h.ends (h.kept bare);
     },
     appends_both out.told out.tells c _ _ h.text put,
     more ∙ same,
     subst (HasFills m h.sets h.last) (sym fills_is) (filled_in pause were few h),
   )
+
+  -- all lines and the last one were put
+  pub went_on : KeptBefore → begins → (c : Option (List ℕ)) (pause : Pause) (before mid now : ℕ) (memory : List ℕ) (steps : ℕ) (end : End) (fills : ℕ)
+      → fills ≡ filling.filled → filling.pages ≤ filling.fills → filling.filled ≤ 128 * new.step → steps ≡ new.step → end ≡ end_of pause → IfReached (Ok pause) (take (4096 * m.frames) memory ≡ with_patches m.image new.ram)
+      → SliceAs m n old new out filling noting begins (Ok pause) → Appends out.tells c (end_line steps end) → mid ≡ before → now ≡ mid
+      → WentOn m n old out c before now memory steps end fills
+  went_on law bare c pause before mid now memory steps end fills fills_is were few steps_is end_is has h put same more =
+      subst (λ (e : End). WentOn m n old out c before now memory steps e fills) (sym end_is)
+      (went_to law bare c pause before mid now memory steps fills fills_is were few steps_is has h (subst (λ (e : End). Appends out.tells c (end_line steps e)) end_is put) same more)
 
   -- all lines and a front of the last one
   pub went_unput : (c : Option (List ℕ)) (pause : Pause) (before mid now : ℕ) (steps : ℕ) (end : End)

@@ -1,5 +1,5 @@
 -- What a patched run promises that goes on from a state.
-use Rattle.std.specs.Prelude.{◌≡◌, ℕ, List, Result, Ok, Err}
+use Rattle.std.specs.Prelude.{◌≡◌, ℕ, List, ◌++◌, Result, Ok, Err}
 use Rattle.pv_io.specs.Causes.{Rose}
 use Rattle.pv_io.specs.Sink.{Appends, AppendsFront}
 use Rattle.image_load.specs.declared.fault.RunFault.{RunFault}
@@ -9,14 +9,16 @@ use Rattle.run_trace.specs.declared.items.Ended.{Ended}
 use Rattle.run_trace.specs.Text.{text_of}
 use Rattle.machine_model.specs.State.{Setting, State}
 use Rattle.machine_model.specs.Step.{Report}
-use Rattle.machine_model.specs.Run.{Set, Run, trace_of}
+use Rattle.machine_model.specs.Run.{Set, Run, stopping, trace_of}
+use Rattle.machine_model.specs.Keeping.{Kept}
 use Rattle.bare_machine.specs.Answers.{RunsTo}
 use Rattle.wedge_core.specs.Surroundings.{Around, IsUntouched}
 use Rattle.wedge_core.specs.Counts.{Counts, CountsOn}
 use Rattle.wedge_core.specs.Promises.{HasFills, HasMemory}
 
 -- One run from a state has this text, count of steps and end. The host completed exactly its direct instructions, and where
--- it has done all its steps, its memory is the host's first frames with the text patched.
+-- it has done all its steps, its memory is the host's first frames with the text patched. Its sets keep the rule for kept
+-- translations, that by which it stops among them: a guest that goes on has no translations and a pool of 512 frames.
 pub record PromiseFrom (m : Setting) (n : ℕ) (first : State) (text : List ℕ) (count : ℕ) (end : End) (before after : Counts) (memory : List ℕ) : Type 0 where
   pub sets : List Set
   pub reports : List Report
@@ -26,6 +28,7 @@ pub record PromiseFrom (m : Setting) (n : ℕ) (first : State) (text : List ℕ)
   pub text_is : text ≡ text_of (trace_of reports) count end
   pub counts : CountsOn m reports before after
   pub memory_is : HasMemory m last end memory
+  pub kept : Kept m first (sets ++ stopping m n last end run.ends)
 
 -- What stands after it: the sink's bytes, its count of faults, which is as it was where no put failed and rose where one
 -- did, and the host's counts and memory. As many pages were filled as bound the run's sets.

@@ -1,6 +1,6 @@
 //! A patched run goes on from a checkpoint, to its last line.
 
-ghost use Rattle.std.specs.Prelude.{◌≡◌, ◌/◌, ◌≤◌, ◌^◌, length, true};
+ghost use Rattle.std.specs.Prelude.{◌≡◌, ◌/◌, ◌≤◌, ◌^◌, length, true, false};
 ghost use Rattle.guest_ram.specs.Bytes.{part};
 ghost use Rattle.ia32_types.specs.declared.addresses.TheConstants.{TEXT_PLACE};
 ghost use Rattle.board.specs.ScriptForm.{is_script};
@@ -12,6 +12,7 @@ ghost use Rattle.wedge_step.specs.Scene.{kept_in, scene, state_in};
 ghost use Rattle.wedge_step.specs.Standing.{IsAble};
 ghost use Rattle.wedge_core.specs.Surroundings.{around};
 ghost use Rattle.wedge_core.specs.OfRoots.{of_roots};
+ghost use Rattle.wedge_core.specs.Sliced.{BeginsBare};
 ghost use Rattle.checkpoint.specs.InForm.{IsInForm};
 ghost use Rattle.checkpoint.specs.Moved.{rested_from};
 ghost use Rattle.checkpoint.specs.Continued.{WedgeGoesTo};
@@ -23,6 +24,7 @@ use frame_pool::Pool;
 use host_cpl3::Host;
 use image_check::Checked;
 use image_load::RunFault;
+use machine_model::kept_on;
 use pv_io::Sink;
 use run_trace::{Ended, NoNotes, end_of, put_end};
 use std::alloc::Global;
@@ -71,6 +73,7 @@ fn whole<H: Host, O: Sink>(
     requires started { H.is_started host.old ≡ true }
     requires between { IsBetween of_roots image.now (scene guest.old pool.old (H.bytes host.old)) }
     requires able { IsAble guest.old.cpu }
+    requires bare { BeginsBare of_roots (scene guest.old pool.old (H.bytes host.old)) false }
     requires filled { WereFilled (kept_in of_roots (scene guest.old pool.old (H.bytes host.old))) guest.old.fills }
     requires script { is_script script.now.list ≡ true }
     requires begun { guest.old.step ≤ n }
@@ -81,6 +84,7 @@ fn whole<H: Host, O: Sink>(
         (scene guest.old pool.old (H.bytes host.old)))
         (around H.Host O.Sink host.old host.new out.old out.new) (H.bytes host.new) result }
 {
+    kept_on();
     let k = n - guest.step();
     let pause = match guest.slice(image, script, k, pool, host, out, &mut NoNotes) {
         Err(_) => return Err(RunFault::Write),

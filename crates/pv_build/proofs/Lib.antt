@@ -4,5 +4,5 @@ pub mod Failures
 mod Sources
 mod Objects
 mod Builds
-mod LineTexts
+pub mod LineTexts
 mod WorkLines

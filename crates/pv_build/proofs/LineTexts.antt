@@ -1,10 +1,15 @@
 -- Lines of texts, read byte by byte.
-use Rattle.std.proofs.Common.{◌≡◌, ◌≢◌, ℕ, zero, suc, ◌+◌, ◌-◌, ◌<◌, ◌≤◌, Bool, true, false, cond, List, [], ◌∷◌, length, get_or, drop, Option, Some, None, refl, sym, ap, subst, ◌∙◌, arith, add-one, drop-cons}
+use Rattle.std.proofs.Common.{◌≡◌, ◌≢◌, ℕ, suc, ◌+◌, ◌-◌, ◌<◌, ◌≤◌, Bool, true, false, cond, List, [], ◌∷◌, ◌++◌, length, get_or, drop, Option, Some, None, refl, sym, ap, subst, ◌∙◌, arith, add-one, append_assoc, drop-cons}
 use Rattle.std.specs.Prelude.{◌==◌}
 use Rattle.std.proofs.lemmas.List.{drop_all}
+use Rattle.std.proofs.lemmas.List.Sums.{sum_by_push}
 use Rattle.std.proofs.lemmas.Bool.Decides.{nat_tests}
-use Rattle.std.proofs.lemmas.Option.{same_Some}
-use Rattle.pv_build.specs.Texts.{lines, begun_by, DifferBehind}
+use Rattle.std.specs.Prelude.{◌↔◌}
+use Rattle.trace_check.specs.Lines.{lines, begun_by, differing}
+use Rattle.trace_check.specs.Matches.{line_behind}
+use Rattle.trace_check.proofs.Differing.{differ_behind, none_differs}
+use Rattle.pv_build.specs.Lines.{same_line, differ_line}
+use Rattle.pv_build.specs.Comparing.{comparison_line, compared_line}
 
 -- ---- how many there are
 
@@ -103,80 +108,50 @@ same_of line [] (y ∷ ys) is = cc
 same_of line (x ∷ xs) [] is = cc
 same_of line (x ∷ xs) (y ∷ ys) is = same_at (y == x) line (cond (x == 10) (line + 1) line) x y xs ys refl is (λ n h. same_of n xs ys h)
 
--- a byte begins a line
-record Begins (b : ℕ) (all : List (List ℕ)) : Type 0 where
-  line : List ℕ
-  later : List (List ℕ)
-  is : all ≡ (b ∷ line) ∷ later
+-- the number of the line after a byte more
+line_if : (ends : Bool) (line all more : ℕ) → line ≡ all + 1 → more ≡ all + cond ends 1 0 → cond ends (line + 1) line ≡ more + 1
+line_if true line all more is more_is = omega (arith, is, more_is)
+line_if false line all more is more_is = omega (arith, is, more_is)
 
-begun : (b : ℕ) (all : List (List ℕ)) → Begins b (begun_by b all)
-begun b [] = record { line = []; later = []; is = refl }
-begun b (line ∷ later) = record { line = line; later = later; is = refl }
+line_on : (x line : ℕ) (front : List ℕ) → line ≡ line_behind front → cond (x == 10) (line + 1) line ≡ line_behind (front ++ x ∷ [])
+line_on x line front is = line_if (x == 10) line _ _ is (sum_by_push (λ (b : ℕ). cond (b == 10) 1 0) front x)
 
-begins_if : (ends : Bool) (b : ℕ) (all : List (List ℕ)) → Begins b (cond ends ((b ∷ []) ∷ all) (begun_by b all))
-begins_if true b all = record { line = []; later = all; is = refl }
-begins_if false b all = begun b all
+-- after a common front, it is the line in which both texts differ
+by_byte : (same : Bool) (front : List ℕ) (line x y : ℕ) (xs ys : List ℕ) → (y == x) ≡ same → line ≡ line_behind front
+    → difference_from (cond (x == 10) (line + 1) line) xs ys ≡ differing 1 (lines ((front ++ x ∷ []) ++ xs)) (lines ((front ++ x ∷ []) ++ ys))
+    → cond same (difference_from (cond (x == 10) (line + 1) line) xs ys) (Some line) ≡ differing 1 (lines (front ++ x ∷ xs)) (lines (front ++ y ∷ ys))
+by_byte true front line x y xs ys test is later =
+    let left = subst (λ (t : List ℕ). difference_from (cond (x == 10) (line + 1) line) xs ys ≡ differing 1 (lines t) (lines ((front ++ x ∷ []) ++ ys)))
+    (append_assoc front (x ∷ []) xs) later in
+    let both = subst (λ (t : List ℕ). difference_from (cond (x == 10) (line + 1) line) xs ys ≡ differing 1 (lines (front ++ x ∷ xs)) (lines t))
+    (append_assoc front (x ∷ []) ys) left in
+    subst (λ (b : ℕ). difference_from (cond (x == 10) (line + 1) line) xs ys ≡ differing 1 (lines (front ++ x ∷ xs)) (lines (front ++ b ∷ ys)))
+    (sym (same_byte x y test)) both
+by_byte false front line x y xs ys test is later =
+    ap (λ (k : ℕ). Some k) is ∙ sym (differ_behind 1 front (x ∷ xs) (y ∷ ys) (other_byte x y test))
 
-begins : (b : ℕ) (text : List ℕ) → Begins b (lines (b ∷ text))
-unfolding lines
-begins b text = begins_if (b == 10) b (lines text)
+differing_behind : (front xs ys : List ℕ) (line : ℕ) → line ≡ line_behind front
+    → difference_from line xs ys ≡ differing 1 (lines (front ++ xs)) (lines (front ++ ys))
+differing_behind front [] [] line is = sym (none_differs 1 (lines (front ++ [])))
+differing_behind front [] (y ∷ ys) line is = ap (λ (k : ℕ). Some k) is ∙ sym (differ_behind 1 front [] (y ∷ ys) tt)
+differing_behind front (x ∷ xs) [] line is = ap (λ (k : ℕ). Some k) is ∙ sym (differ_behind 1 front (x ∷ xs) [] tt)
+differing_behind front (x ∷ xs) (y ∷ ys) line is =
+    by_byte (y == x) front line x y xs ys refl is
+    (differing_behind (front ++ x ∷ []) xs ys (cond (x == 10) (line + 1) line) (line_on x line front is))
 
--- no line is empty
-no_empty : (text : List ℕ) (later : List (List ℕ)) → lines text ≡ [] ∷ later → ⊥
-unfolding lines
-no_empty [] later is = cc
-no_empty (b ∷ text) later is =
-    let h = begins b text in
-    let j = h.is in
-    cc (j, is)
+pub differing_from : (xs ys : List ℕ) → difference_from 1 xs ys ≡ differing 1 (lines xs) (lines ys)
+differing_from xs ys = differing_behind [] xs ys 1 refl
 
--- a byte before both
-behind : (b : ℕ) (xs ys : List (List ℕ)) (n : ℕ) → ((later : List (List ℕ)) → xs ≡ [] ∷ later → ⊥) → ((later : List (List ℕ)) → ys ≡ [] ∷ later → ⊥)
-    → DifferBehind xs ys n → DifferBehind (begun_by b xs) (begun_by b ys) n
-behind b [] [] n full full2 h = absurd h
-behind b [] (y ∷ ys) n full full2 h =
-    subst (λ (m : ℕ). DifferBehind ((b ∷ []) ∷ []) ((b ∷ y) ∷ ys) m) (sym h) (λ same. full2 ys (cc same))
-behind b (x ∷ xs) [] n full full2 h =
-    subst (λ (m : ℕ). DifferBehind ((b ∷ x) ∷ xs) ((b ∷ []) ∷ []) m) (sym h) (λ same. full xs (cc same))
-behind b (x ∷ xs) (y ∷ ys) zero full full2 h = λ same. h (cc same)
-behind b (x ∷ xs) (y ∷ ys) (suc n) full full2 h = (ap (λ (l : List ℕ). b ∷ l) h.0, h.1)
+differ_is_not_same : (n : ℕ) → differ_line n ≡ same_line → ⊥
+differ_is_not_same n is = cc
 
--- the number of equal lines before the line m
-pub record Behind (line m : ℕ) (xs ys : List (List ℕ)) : Type 0 where
-  pub n : ℕ
-  pub is : m ≡ n + line
-  pub differ : DifferBehind xs ys n
+none_from : (first second : List ℕ) (r : Option ℕ) → difference_from 1 first second ≡ r → comparison_line r ≡ same_line → first ≡ second
+none_from first second None none is = same_of 1 first second none
+none_from first second (Some line) none is = absurd (differ_is_not_same line is)
 
-one_more : (ends : Bool) (line m b : ℕ) (xs ys : List ℕ) → (b == 10) ≡ ends → Behind (cond ends (line + 1) line) m (lines xs) (lines ys) → Behind line m (lines (b ∷ xs)) (lines (b ∷ ys))
-unfolding lines
-one_more true line m b xs ys is h =
-    rw is (record { n = suc h.n; is = omega (arith, h.is); differ = (refl, h.differ) })
-one_more false line m b xs ys is h =
-    rw is (record { n = h.n; is = h.is; differ = behind b (lines xs) (lines ys) h.n (no_empty xs) (no_empty ys) h.differ })
-
-differ_at : (same : Bool) (line m x y : ℕ) (xs ys : List ℕ) → (y == x) ≡ same → cond same (difference_from (cond (x == 10) (line + 1) line) xs ys) (Some line) ≡ Some m
-    → ((n : ℕ) → difference_from n xs ys ≡ Some m → Behind n m (lines xs) (lines ys)) → Behind line m (lines (x ∷ xs)) (lines (y ∷ ys))
-differ_at true line m x y xs ys test is later =
-    subst (λ (b : ℕ). Behind line m (lines (x ∷ xs)) (lines (b ∷ ys))) (sym (same_byte x y test)) (one_more (x == 10) line m x xs ys refl (later (cond (x == 10) (line + 1) line) is))
-differ_at false line m x y xs ys test is later =
-    let one = begins x xs in
-    let two = begins y ys in
-    let left = one.is in
-    let right = two.is in
-    let here : DifferBehind ((x ∷ one.line) ∷ one.later) ((y ∷ two.line) ∷ two.later) 0 = λ same. other_byte x y test (cc same) in
-    record { n = 0; is = omega (arith, same_Some line m is); differ = rw (left, right) here }
-
-pub differ_of : (line m : ℕ) (xs ys : List ℕ) → difference_from line xs ys ≡ Some m → Behind line m (lines xs) (lines ys)
-unfolding lines
-differ_of line m [] [] is = cc
-differ_of line m [] (y ∷ ys) is =
-    let two = begins y ys in
-    let right = two.is in
-    let here : DifferBehind [] ((y ∷ two.line) ∷ two.later) 0 = refl in
-    record { n = 0; is = omega (arith, same_Some line m is); differ = rw right here }
-differ_of line m (x ∷ xs) [] is =
-    let one = begins x xs in
-    let left = one.is in
-    let here : DifferBehind ((x ∷ one.line) ∷ one.later) [] 0 = refl in
-    record { n = 0; is = omega (arith, same_Some line m is); differ = rw left here }
-differ_of line m (x ∷ xs) (y ∷ ys) is = differ_at (y == x) line m x y xs ys refl is (λ n h. differ_of n m xs ys h)
+-- texts are reported to be the same exactly where they are
+pub same_exactly : (first second : List ℕ) → (compared_line first second ≡ same_line) ↔ (first ≡ second)
+same_exactly first second = (
+  λ line. none_from first second (differing 1 (lines first) (lines second)) (differing_from first second) line,
+  λ same. subst (λ (t : List ℕ). compared_line first t ≡ same_line) same (ap comparison_line (none_differs 1 (lines first))),
+)

@@ -1,32 +1,33 @@
 -- The two lines of `work`.
-use Rattle.std.proofs.Common.{◌≡◌, inl, ℕ, ◌+◌, ◌≤◌, List, ◌++◌, Option, Result, Ok, Err, IfOk, refl, sym, ap, subst, ◌∙◌, arith, append_assoc}
+use Rattle.std.proofs.Common.{◌≡◌, inl, ℕ, ◌+◌, List, ◌++◌, Option, Result, Ok, Err, IfOk, refl, sym, ap, subst, ◌∙◌, arith, append_assoc}
 use Rattle.std.specs.declared.alloc.AllocError.{AllocError}
 use Rattle.pv_io.specs.Causes.{Rose}
 use Rattle.pv_io.specs.Sink.{Appends, AppendsFront}
 use Rattle.pv_io.proofs.Pieces.{appends_both}
-use Rattle.pv_build.specs.Lines.{work_line, differ_line}
-use Rattle.pv_build.specs.Texts.{lines, DifferBehind, Compares, Differ}
+use Rattle.trace_check.specs.Lines.{lines, differing}
+use Rattle.pv_build.specs.Lines.{work_line}
+use Rattle.pv_build.specs.Comparing.{comparison_line, compared_line}
 use Rattle.pv_build.specs.Telling.{Says, Cut, TellsBoth}
 use Rattle.pv_build.specs.declared.status.Status.{Status}
 use Rattle.pv_build.specs.declared.status.Status.TheVariants as status
 
--- the line of a difference
-pub tells_difference : (r : Result (List ℕ) AllocError) (first second : List ℕ) (line : ℕ) → IfOk r (λ l. l ≡ differ_line line)
-    → (n : ℕ) × (line ≡ n + 1) × DifferBehind (lines first) (lines second) n → IfOk r (λ l. Compares first second l)
-tells_difference (Ok l) first second line is h = Differ h.0 h.2 (is ∙ ap (λ (k : ℕ). differ_line k) h.1)
-tells_difference (Err e) first second line is h = tt
+-- the line of what was found of two texts
+pub tells_found : (r : Result (List ℕ) AllocError) (found : Option ℕ) (first second line : List ℕ) → IfOk r (λ l. l ≡ line) → line ≡ comparison_line found
+    → found ≡ differing 1 (lines first) (lines second) → IfOk r (λ l. l ≡ compared_line first second)
+tells_found (Ok l) found first second line is of same = is ∙ of ∙ ap comparison_line same
+tells_found (Err e) found first second line is of same = tt
 
 pub work_line_is : (number text text2 sites sites2 items items2 fills : ℕ) → text ≡ text2 → sites ≡ sites2 → items ≡ items2 → work_line number text sites items fills ≡ work_line number text2 sites2 items2 fills
 work_line_is number text text2 sites sites2 items items2 fills a b c =
     ap (λ (k : ℕ). work_line number k sites items fills) a ∙ (ap (λ (k : ℕ). work_line number text2 k items fills) b ∙ ap (λ (k : ℕ). work_line number text2 sites2 k fills) c)
 
-pub tells_both : (line wanted first second other other2 told : List ℕ) (old new : Option (List ℕ)) (before now : ℕ) (st : Status) → line ≡ wanted → other ≡ first → other2 ≡ second → Compares other other2 told
-    → Says (line ++ told) status.Done old new before now st → TellsBoth wanted first second old new before now st
+pub tells_both : (line wanted first second other other2 told : List ℕ) (old new : Option (List ℕ)) (before now : ℕ) (st : Status) → line ≡ wanted → other ≡ first → other2 ≡ second
+    → told ≡ compared_line other other2 → Says (line ++ told) status.Done old new before now st → TellsBoth wanted first second old new before now st
 tells_both line wanted first second other other2 told old new before now st is same same2 compares said =
+    let told_is = subst (λ (t : List ℕ). told ≡ compared_line first t) same2 (subst (λ (t : List ℕ). told ≡ compared_line t other2) same compares) in
     inl (
-      told,
-      subst (λ (t : List ℕ). Compares first t told) same2 (subst (λ (t : List ℕ). Compares t other2 told) same compares),
-      subst (λ (l : List ℕ). Says (l ++ told) status.Done old new before now st) is said,
+    subst (λ (t : List ℕ). Says (wanted ++ t) status.Done old new before now st) told_is
+    (subst (λ (l : List ℕ). Says (l ++ told) status.Done old new before now st) is said)
     )
 
 -- ---- both are put

@@ -1,6 +1,5 @@
 pub mod Numbers
 pub mod Lines
-pub mod Texts
 pub mod Readings
 pub mod Failures
 pub mod Statuses

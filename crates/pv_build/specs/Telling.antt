@@ -7,7 +7,7 @@ use Rattle.image_load.specs.declared.fault.RunFault.{RunFault}
 use Rattle.image_load.specs.declared.fault.RunFault.TheVariants as fault
 use Rattle.run_trace.specs.declared.items.Ended.{Ended}
 use Rattle.pv_build.specs.Lines.{too_small_line}
-use Rattle.pv_build.specs.Texts.{Compares}
+use Rattle.pv_build.specs.Comparing.{compared_line}
 use Rattle.pv_build.specs.Statuses.{status_of}
 use Rattle.pv_build.specs.declared.halt.Halt.{Halt}
 use Rattle.pv_build.specs.declared.halt.Halt.TheVariants as halt
@@ -54,7 +54,7 @@ ToldAs (Err fault.Memory) old new before now result = (result ≡ status.Memory)
 -- both lines of `work` were put, or no memory was found
 abbrev pub TellsBoth : List ℕ → List ℕ → List ℕ → Option (List ℕ) → Option (List ℕ) → ℕ → ℕ → Status → Type 0
 TellsBoth line first second old new before now result =
-    ((told : List ℕ) × Compares first second told × Says (line ++ told) status.Done old new before now result)
+    Says (line ++ compared_line first second) status.Done old new before now result
     ⊎ ((result ≡ status.Memory) × (new ≡ old) × (now ≡ before))
 
 -- A part's answer is what is meant, unless no memory was found.

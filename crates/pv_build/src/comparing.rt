@@ -1,9 +1,8 @@
 //! What `work` reports of its two runs.
 
-ghost use Rattle.std.specs.Prelude.{IfOk, ◌++◌};
-ghost use Rattle.pv_build.specs.Texts.{Compares};
+ghost use Rattle.std.specs.Prelude.{◌≡◌, IfOk, ◌++◌};
 ghost use Rattle.pv_build.specs.Telling.{Says, TellsBoth};
-ghost use Rattle.pv_build.specs.Comparing.{told_line};
+ghost use Rattle.pv_build.specs.Comparing.{told_line, compared_line};
 
 use crate::halt::Line;
 use crate::lines::{Told, differ_line, same_line, work_line};
@@ -50,7 +49,7 @@ pub fn tell_both<S: Sink>(
 
 // The second line.
 fn compared(alloc: Global, first: &[u8], second: &[u8]) -> Result<Line, AllocError>
-    ensures { IfOk result (λ line. Compares first.now second.now line) }
+    ensures { IfOk result (λ line. line ≡ compared_line first.now second.now) }
 {
     match difference(first, second) {
         None => same_line(alloc),

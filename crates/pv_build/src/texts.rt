@@ -1,7 +1,7 @@
 //! Two texts, line by line.
 
-ghost use Rattle.std.specs.Prelude.{◌≡◌, ◌+◌, ℕ, length, MatchOption};
-ghost use Rattle.pv_build.specs.Texts.{lines, DifferBehind};
+ghost use Rattle.std.specs.Prelude.{◌≡◌, length};
+ghost use Rattle.trace_check.specs.Lines.{lines, differing};
 
 /// How many lines a text has. The last may lack its newline.
 pub fn count_lines(text: &[u8]) -> usize
@@ -20,8 +20,7 @@ pub fn count_lines(text: &[u8]) -> usize
 
 /// The first line, from 1, in which two texts differ or which one of them lacks.
 pub fn difference(first: &[u8], second: &[u8]) -> Option<usize>
-    ensures { MatchOption result (first.now ≡ second.now)
-        (λ line. (n : ℕ) × (line ≡ n + 1) × DifferBehind (lines first.now) (lines second.now) n) }
+    ensures { result ≡ differing 1 (lines first.now) (lines second.now) }
 {
     let mut line: usize = 1;
     for (i, b) in first.iter().enumerate() {

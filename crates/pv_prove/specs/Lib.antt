@@ -5,4 +5,3 @@ pub mod Proving
 pub mod Certifying
 pub mod Replaying
 pub mod Judging
-pub mod Asked

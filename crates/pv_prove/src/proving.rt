@@ -20,7 +20,6 @@ ghost use Rattle.pv_tasks.specs.Faulting.{FaultsEnd};
 ghost use Rattle.pv_prove.specs.Proving.{prove_task};
 ghost use Rattle.pv_prove.specs.Certifying.{Certifies};
 ghost use Rattle.pv_tasks.specs.Tasks.{Means, FaultCounts};
-ghost use Rattle.pv_prove.specs.Asked.{asked_prove};
 
 use crate::certificates::certificate_file;
 use host_cpl3::Host;
@@ -43,9 +42,11 @@ pub fn prove<F: Files, S: Sink, H: Host>(
 ) -> Status
     requires within { AreWithin words }
     requires room { H.retired host.old ≤ 2 ^ 63 }
-    ensures meaning { Means (asked_prove words.entry certificate.now)
+    ensures meaning { Means
+        (prove_task words.entry.image.now words.entry.script.now words.entry.frames words.entry.n certificate.now)
         (outside F.Files S.Sink H.Host (files.old, files.new) (out.old, out.new) (host.old, host.new)) result }
-    ensures counts { FaultCounts (asked_prove words.entry certificate.now)
+    ensures counts { FaultCounts
+        (prove_task words.entry.image.now words.entry.script.now words.entry.frames words.entry.n certificate.now)
         (outside F.Files S.Sink H.Host (files.old, files.new) (out.old, out.new) (host.old, host.new)) }
     ensures ends { FaultsEnd F.Files S.Sink (files.old, files.new) (out.old, out.new) result }
 {

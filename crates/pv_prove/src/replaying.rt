@@ -10,7 +10,7 @@ ghost use Rattle.pv_tasks.specs.Beside.{beside};
 ghost use Rattle.pv_tasks.specs.Faulting.{FaultsEnd};
 ghost use Rattle.pv_prove.specs.Judging.{JudgesAs};
 ghost use Rattle.pv_tasks.specs.Tasks.{Means, FaultCounts};
-ghost use Rattle.pv_prove.specs.Asked.{asked_replay};
+ghost use Rattle.pv_prove.specs.Replaying.{replay_task};
 
 use crate::certificate_lines::verdict_line;
 use crate::certificates::{Replayable, replayable_in_files};
@@ -30,9 +30,11 @@ pub fn replay<F: Files, S: Sink>(
     out: &mut S,
 ) -> Status
     requires within { AreWithin words }
-    ensures meaning { (completed : HostCounts) (memory : List ℕ) → Means (asked_replay words.entry certificate.now text.now)
+    ensures meaning { (completed : HostCounts) (memory : List ℕ) → Means
+        (replay_task words.entry.image.now words.entry.script.now words.entry.frames words.entry.n certificate.now text.now)
         (beside F.Files S.Sink (files.old, files.new) (out.old, out.new) completed memory) result }
-    ensures counts { (completed : HostCounts) (memory : List ℕ) → FaultCounts (asked_replay words.entry certificate.now text.now)
+    ensures counts { (completed : HostCounts) (memory : List ℕ) → FaultCounts
+        (replay_task words.entry.image.now words.entry.script.now words.entry.frames words.entry.n certificate.now text.now)
         (beside F.Files S.Sink (files.old, files.new) (out.old, out.new) completed memory) }
     ensures ends { FaultsEnd F.Files S.Sink (files.old, files.new) (out.old, out.new) result }
 {

@@ -8,6 +8,7 @@ use Rattle.image_load.specs.declared.fault.RunFault.{RunFault}
 use Rattle.image_load.specs.declared.fault.RunFault.TheVariants as fault
 use Rattle.run_trace.specs.declared.items.Ended.{Ended}
 use Rattle.machine_model.specs.State.{wedge}
+use Rattle.machine_model.specs.Run.{stopping}
 use Rattle.bare_machine.specs.Answers.{WholeAs}
 use Rattle.bare_machine.specs.Settings.{bare}
 use Rattle.wedge_core.specs.Counts.{Counts}
@@ -48,7 +49,7 @@ continued_bare image events n s old mid new before middle now (Ok e) c memory st
     let p = h.1 in
     let run : HostedRun = record { setting = bare image events (frames_of s); sets = p.sets; reports = p.reports; last = p.last; end = e.end } in
     inl (
-      told (status_of e.end) (run_text run) (run_on mode.Bare run),
+      told (status_of e.end) (run_text run) (run_on mode.Bare (rested_from s) run (stopping run.setting n p.last run.end p.run.ends)),
       record { sets = p.sets; reports = p.reports; last = p.last; end = e.end; run = p.run; comes = refl },
       Whole said.0 (appends_on old mid new (run_text run) said.1 (subst (λ (t : List ℕ). Appends old mid t) (text_at p.reports h.0 e.steps p.last.step e.end p.text_is p.count_is) h.2)) (said.2 ∙ h.3),
       λ end. refl,
@@ -57,7 +58,7 @@ continued_bare image events n s old mid new before middle now (Err fault.Write) 
     let p = h.3 in
     let run : HostedRun = record { setting = bare image events (frames_of s); sets = p.sets; reports = p.reports; last = p.last; end = h.2 } in
     inl (
-      told (status_of h.2) (run_text run) (run_on mode.Bare run),
+      told (status_of h.2) (run_text run) (run_on mode.Bare (rested_from s) run (stopping run.setting n p.last run.end p.run.ends)),
       record { sets = p.sets; reports = p.reports; last = p.last; end = h.2; run = p.run; comes = refl },
       Cut said.0 (front_on old mid new (run_text run) said.1 (subst (λ (t : List ℕ). AppendsFront old mid t) (text_at p.reports h.0 h.1 p.last.step h.2 p.text_is p.count_is) h.4)) (rose_on before middle now said.2 h.5),
       λ end. refl,
@@ -72,16 +73,16 @@ continued_wedge image events n s old mid new before middle now (Ok e) c c2 memor
     let p = h.1 in
     let run : HostedRun = record { setting = wedge image events (frames_of s); sets = p.sets; reports = p.reports; last = p.last; end = e.end } in
     inl (
-      told (status_of e.end) (run_text run) (run_on mode.Wedge run),
+      told (status_of e.end) (run_text run) (run_on mode.Wedge (rested_from s) run (stopping run.setting n p.last run.end p.run.ends)),
       record { sets = p.sets; reports = p.reports; last = p.last; end = e.end; run = p.run; comes = refl },
       Whole said.0 (appends_on old mid new (run_text run) said.1 (subst (λ (t : List ℕ). Appends old mid t) (text_at p.reports h.0 e.steps p.last.step e.end p.text_is p.count_is) h.2)) (said.2 ∙ h.3),
-      λ end. (p.counts, p.memory_is),
+      λ end. (p.counts, p.memory_is, p.kept),
     )
 continued_wedge image events n s old mid new before middle now (Err fault.Write) c c2 memory st h said =
     let p = h.3 in
     let run : HostedRun = record { setting = wedge image events (frames_of s); sets = p.sets; reports = p.reports; last = p.last; end = h.2 } in
     inl (
-      told (status_of h.2) (run_text run) (run_on mode.Wedge run),
+      told (status_of h.2) (run_text run) (run_on mode.Wedge (rested_from s) run (stopping run.setting n p.last run.end p.run.ends)),
       record { sets = p.sets; reports = p.reports; last = p.last; end = h.2; run = p.run; comes = refl },
       Cut said.0 (front_on old mid new (run_text run) said.1 (subst (λ (t : List ℕ). AppendsFront old mid t) (text_at p.reports h.0 h.1 p.last.step h.2 p.text_is p.count_is) h.4)) (rose_on before middle now said.2 h.5),
       λ end. absurd (no_write h.2 (sym said.0 ∙ end)),

@@ -5,4 +5,3 @@ pub mod Resting
 pub mod Continuing
 pub mod Answering
 pub mod Leaving
-pub mod Asked

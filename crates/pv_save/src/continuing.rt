@@ -11,7 +11,7 @@ ghost use Rattle.pv_tasks.specs.Outside.{outside};
 ghost use Rattle.pv_tasks.specs.Faulting.{FaultsEnd};
 ghost use Rattle.pv_save.specs.Answering.{AnswersOnwards};
 ghost use Rattle.pv_tasks.specs.Tasks.{Means, FaultCounts};
-ghost use Rattle.pv_save.specs.Asked.{asked_continue};
+ghost use Rattle.pv_save.specs.Continuing.{continue_task};
 
 use crate::checkpoints::{Resumable, resumable_in_files};
 use crate::machine::is_wedge;
@@ -35,9 +35,11 @@ pub fn go_on<F: Files, S: Sink, H: Host>(
 ) -> Status
     requires within { words.n ≤ 2 ^ 40 }
     requires room { H.retired host.old ≤ 2 ^ 63 }
-    ensures meaning { Means (asked_continue mode words.entry)
+    ensures meaning { Means
+        (continue_task mode words.entry.image.now words.entry.script.now words.entry.file.now words.entry.n)
         (outside F.Files S.Sink H.Host (files.old, files.new) (out.old, out.new) (host.old, host.new)) result }
-    ensures counts { FaultCounts (asked_continue mode words.entry)
+    ensures counts { FaultCounts
+        (continue_task mode words.entry.image.now words.entry.script.now words.entry.file.now words.entry.n)
         (outside F.Files S.Sink H.Host (files.old, files.new) (out.old, out.new) (host.old, host.new)) }
     ensures host { mode ≡ RunMode.Bare → host.new ≡ host.old }
     ensures ends { FaultsEnd F.Files S.Sink (files.old, files.new) (out.old, out.new) result }

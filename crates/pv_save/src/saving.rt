@@ -16,7 +16,7 @@ ghost use Rattle.pv_tasks.specs.Faulting.{FaultsEnd};
 ghost use Rattle.pv_save.specs.Answering.{AnswersStart, AnswersState, HasForm};
 ghost use Rattle.pv_save.specs.Leaving.{LeavesAs};
 ghost use Rattle.pv_tasks.specs.Tasks.{Means, FaultCounts};
-ghost use Rattle.pv_save.specs.Asked.{asked_save, asked_save_from};
+ghost use Rattle.pv_save.specs.Resting.{save_task, save_from_task};
 
 use crate::checkpoints::{Resumable, checkpoint_file, resumable_in_files};
 use crate::machine::is_wedge;
@@ -41,11 +41,15 @@ pub fn save<F: Files, S: Sink, H: Host>(
 ) -> Status
     requires within { AreWithin words }
     requires room { H.retired host.old ≤ 2 ^ 63 }
-    ensures meaning { Means (asked_save mode words.entry file.now)
+    ensures meaning { Means
+        (save_task mode words.entry.image.now words.entry.script.now words.entry.frames words.entry.n file.now)
         (outside F.Files S.Sink H.Host (files.old, files.new) (out.old, out.new) (host.old, host.new)) result }
-    ensures counts { FaultCounts (asked_save mode words.entry file.now)
+    ensures counts { FaultCounts
+        (save_task mode words.entry.image.now words.entry.script.now words.entry.frames words.entry.n file.now)
         (outside F.Files S.Sink H.Host (files.old, files.new) (out.old, out.new) (host.old, host.new)) }
-    ensures leaves { result ≡ Status.Done → (asked_save mode words.entry file.now).leaves (F.held files.old) (F.held files.new) }
+    ensures leaves { result ≡ Status.Done
+        → (save_task mode words.entry.image.now words.entry.script.now words.entry.frames words.entry.n file.now).leaves
+        (F.held files.old) (F.held files.new) }
     ensures host { mode ≡ RunMode.Bare → host.new ≡ host.old }
     ensures ends { FaultsEnd F.Files S.Sink (files.old, files.new) (out.old, out.new) result }
 {
@@ -70,11 +74,15 @@ pub fn save_from<F: Files, S: Sink, H: Host>(
 ) -> Status
     requires within { words.n ≤ 2 ^ 40 }
     requires room { H.retired host.old ≤ 2 ^ 63 }
-    ensures meaning { Means (asked_save_from mode words.entry new.now)
+    ensures meaning { Means
+        (save_from_task mode words.entry.image.now words.entry.script.now words.entry.file.now words.entry.n new.now)
         (outside F.Files S.Sink H.Host (files.old, files.new) (out.old, out.new) (host.old, host.new)) result }
-    ensures counts { FaultCounts (asked_save_from mode words.entry new.now)
+    ensures counts { FaultCounts
+        (save_from_task mode words.entry.image.now words.entry.script.now words.entry.file.now words.entry.n new.now)
         (outside F.Files S.Sink H.Host (files.old, files.new) (out.old, out.new) (host.old, host.new)) }
-    ensures leaves { result ≡ Status.Done → (asked_save_from mode words.entry new.now).leaves (F.held files.old) (F.held files.new) }
+    ensures leaves { result ≡ Status.Done
+        → (save_from_task mode words.entry.image.now words.entry.script.now words.entry.file.now words.entry.n new.now).leaves
+        (F.held files.old) (F.held files.new) }
     ensures host { mode ≡ RunMode.Bare → host.new ≡ host.old }
     ensures ends { FaultsEnd F.Files S.Sink (files.old, files.new) (out.old, out.new) result }
 {

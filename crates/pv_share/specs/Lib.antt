@@ -3,4 +3,3 @@ pub mod Unshared
 pub mod ScheduleLines
 pub mod Sharing
 pub mod Told
-pub mod Asked

@@ -1,13 +1,13 @@
 //! The command `share`: several kernels on one host.
 
-ghost use Rattle.std.specs.Prelude.{◌≡◌, ◌≤◌, ◌^◌, true};
+ghost use Rattle.std.specs.Prelude.{◌≡◌, ◌≤◌, ◌^◌, true, map, string_bytes};
 ghost use Rattle.std.specs.List.{list_any};
+ghost use Rattle.pv_words.specs.Words.{names_in_pairs};
 ghost use Rattle.pv_words.specs.View.{AreKernels};
 ghost use Rattle.pv_tasks.specs.Outside.{outside};
 ghost use Rattle.pv_tasks.specs.Faulting.{FaultsEnd};
 ghost use Rattle.pv_tasks.specs.Tasks.{Means, FaultCounts};
-ghost use Rattle.pv_share.specs.Asked.{asked_share};
-ghost use Rattle.pv_share.specs.Sharing.{has_stopped, status_of_all};
+ghost use Rattle.pv_share.specs.Sharing.{has_stopped, status_of_all, share_task};
 ghost use Rattle.pv_share.specs.Told.{SharedToldAs, run_fault};
 
 use crate::kernel::shared_in_files;
@@ -30,9 +30,11 @@ pub fn share<F: Files, S: Sink, H: Host>(
 ) -> Status
     requires within { AreKernels words }
     requires room { H.retired host.old ≤ 2 ^ 63 }
-    ensures meaning { Means (asked_share words.entry)
+    ensures meaning { Means
+        (share_task words.entry.schedule.now words.entry.frames (names_in_pairs (map string_bytes words.entry.kernels.now)))
         (outside F.Files S.Sink H.Host (files.old, files.new) (out.old, out.new) (host.old, host.new)) result }
-    ensures counts { FaultCounts (asked_share words.entry)
+    ensures counts { FaultCounts
+        (share_task words.entry.schedule.now words.entry.frames (names_in_pairs (map string_bytes words.entry.kernels.now)))
         (outside F.Files S.Sink H.Host (files.old, files.new) (out.old, out.new) (host.old, host.new)) }
     ensures ends { FaultsEnd F.Files S.Sink (files.old, files.new) (out.old, out.new) result }
 {

@@ -29,10 +29,9 @@ use Rattle.pv_build.specs.declared.status.Status.{Status}
 use Rattle.pv_build.specs.declared.status.Status.TheVariants as status
 use Rattle.pv_tasks.specs.Outside.{Outside}
 use Rattle.pv_tasks.specs.Outcome.{Outcome, HostedRun, HasEnded, HostDid, refused, ended, ended_on_host}
-use Rattle.pv_tasks.specs.Running.{RunsBare, RunsPatched, RunsOn, Ran, Small, Reads, Unread, Runs}
+use Rattle.pv_tasks.specs.Running.{RunsBare, RunsPatched, RunsOn, Ran, Small, Reads, Unread, Runs, run_task}
 use Rattle.pv_tasks.specs.Answering.{AnswersOn}
 use Rattle.pv_tasks.specs.Tasks.{Task, Means}
-use Rattle.pv_tasks.specs.Asked.{asked_run}
 use Rattle.pv_words.specs.declared.words.RunWords.{RunWords}
 use Rattle.pv_words.specs.declared.mode.RunMode.{RunMode}
 use Rattle.pv_words.specs.declared.mode.RunMode.TheVariants as mode
@@ -219,10 +218,10 @@ told_of mode.Bare frames n = bare_told frames n
 told_of mode.Wedge frames n = patched_told frames n
 
 pub gives_run : (on : RunMode) (words : RunWords) (files : Option FileMap) (w : Outcome) → Runs (runs_of on words.frames words.n) words.frames files words.image.now words.script.now w
-    → (asked_run on words).gives files w
+    → (run_task on words.image.now words.script.now words.frames words.n).gives files w
 gives_run mode.Bare words files w h = h
 gives_run mode.Wedge words files w h = h
 
-pub finds_run : (on : RunMode) (words : RunWords) (files : Option FileMap) → (asked_run on words).finds files → FindsRun files words.image.now words.script.now
+pub finds_run : (on : RunMode) (words : RunWords) (files : Option FileMap) → (run_task on words.image.now words.script.now words.frames words.n).finds files → FindsRun files words.image.now words.script.now
 finds_run mode.Bare words files h = h
 finds_run mode.Wedge words files h = h

@@ -9,10 +9,9 @@ use Rattle.machine_model.specs.Run.{stopping}
 use Rattle.wedge_core.specs.Counts.{Counts}
 use Rattle.wedge_core.specs.Promises.{Promise, HasOwnFills}
 use Rattle.wedge_core.proofs.AnsweredBy.{WedgeAnswers}
-use Rattle.pv_build.specs.Texts.{Compares}
 use Rattle.pv_build.specs.Telling.{RefusesAs, Says, Whole, Cut, Ends, TellsBoth}
 use Rattle.pv_build.specs.Building.{Builds, built_of}
-use Rattle.pv_build.specs.Comparing.{told_line}
+use Rattle.pv_build.specs.Comparing.{told_line, compared_line}
 use Rattle.pv_build.specs.declared.halt.Halt.{Halt}
 use Rattle.pv_build.specs.declared.halt.Halt.TheVariants as halt
 use Rattle.pv_build.specs.declared.status.Status.{Status}
@@ -20,7 +19,7 @@ use Rattle.pv_build.specs.declared.status.Status.TheVariants as status
 use Rattle.pv_tasks.specs.Outside.{Outside}
 use Rattle.pv_tasks.specs.Outcome.{Outcome, HostedRun, refused, compared}
 use Rattle.pv_tasks.specs.Running.{Ran, Small}
-use Rattle.pv_tasks.specs.Working.{second_setting, RunsTwice, WorksOn, Works, work_task}
+use Rattle.pv_tasks.specs.Working.{first_text, second_setting, RunsTwice, WorksOn, Works, work_task}
 use Rattle.pv_tasks.specs.Worked.{HasTexts, IsTooLarge, WorkedAs}
 use Rattle.pv_tasks.specs.Faulting.{PutsEnd}
 use Rattle.pv_tasks.specs.Tasks.{Means}
@@ -73,11 +72,12 @@ too_large number image c c2 line h large = (record { made = Ok image; builds = h
 pub work_tells : (number : ℕ) (image : Image) (first second : List ℕ) (fills : ℕ) (old new : Option (List ℕ)) (before now : ℕ) (c c2 : Counts) (memory : List ℕ) (st : Status)
     → Builds (kernel_text number) (Ok image) → HasTexts image first second fills c c2 memory → TellsBoth (told_line number image second fills) first second old new before now st
     → WorkedAs number (around_of old new before now c c2) memory st
-work_tells number image first second fills old new before now c c2 memory st h t (inl (told, compares, said)) =
+work_tells number image first second fills old new before now c c2 memory st h t (inl said) =
     let p = t.promise in
     let stopped = stopping (second_setting image) 100000 p.last t.end p.run.ends in
     let run : HostedRun = record { setting = second_setting image; sets = p.sets; reports = p.reports; last = p.last; end = t.end } in
-    let twice : RunsTwice number image (compared run stopped (told_line number image second fills ++ told)) = record {
+    let text = told_line number image second fills ++ compared_line (first_text image) second in
+    let twice : RunsTwice number image (compared run stopped text) = record {
       sets = p.sets;
       reports = p.reports;
       last = p.last;
@@ -87,11 +87,10 @@ work_tells number image first second fills old new before now c c2 memory st h t
       second_is = text_at p.reports second t.count p.last.step t.end p.text_is p.count_is;
       fills = fills;
       filled = t.filled;
-      told = told;
-      compares = subst (λ (f : List ℕ). Compares f second told) t.first_is compares;
       comes = refl;
     } in
-    inl (compared run stopped (told_line number image second fills ++ told), record { made = Ok image; builds = h; comes = Ran t.fits twice }, said, λ end. (p.counts, p.memory_is, p.kept refl))
+    let says = subst (λ (f : List ℕ). Says (told_line number image second fills ++ compared_line f second) status.Done old new before now st) t.first_is said in
+    inl (compared run stopped text, record { made = Ok image; builds = h; comes = Ran t.fits twice }, says, λ end. (p.counts, p.memory_is, p.kept refl))
 work_tells number image first second fills old new before now c c2 memory st h t (inr none) = inr none
 
 -- ---- what the outcomes are

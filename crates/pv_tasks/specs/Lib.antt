@@ -12,4 +12,3 @@ pub mod Working
 pub mod Answering
 pub mod Delivery
 pub mod Worked
-pub mod Asked

@@ -24,8 +24,8 @@ pub record HostedRun : Type 0 where
 -- what the host has a part in
 pub data HostPart : Type 0 where
   Nothing : HostPart
-  -- a run from boot that keeps the rule for kept translations, with those by which its last step stops, if it ends so
-  KeptRun : (run : HostedRun) (stopping : List Set) → HostPart
+  -- a run from this state that keeps the rule for kept translations, with those by which its last step stops, if it ends so
+  KeptRun : (first : State) (run : HostedRun) (stopping : List Set) → HostPart
   -- a run that has ended
   EndedRun : HostedRun → HostPart
   -- steps
@@ -33,11 +33,13 @@ pub data HostPart : Type 0 where
   -- the turns of several kernels: what the host's counts are after them, by what they were before
   Turns : (counts_behind : Counts → Counts) → HostPart
 
--- What the host has done. Of a run it completed the direct instructions, and the run's memory is its own; the sets of a run
--- from boot keep the rule for kept translations, that by which it stops among them. Of turns it completed the direct instructions of each. Else it did nothing.
+-- What the host has done. Of a run it completed the direct instructions, and the run's memory is its own; the sets of one that
+-- keeps the rule for kept translations do so, that by which it stops among them. Of turns it completed the direct instructions
+-- of each. Else it did nothing.
 abbrev pub HostDid : HostPart → Counts → Counts → List ℕ → Type 0
 HostDid Nothing completed completed2 memory2 = completed2 ≡ completed
-HostDid (KeptRun r stopped) completed completed2 memory2 = CountsOn r.setting r.reports completed completed2 × HasMemory r.setting r.last r.end memory2 × Kept r.setting (boot r.setting) (r.sets ++ stopped)
+HostDid (KeptRun first r stopped) completed completed2 memory2 =
+    CountsOn r.setting r.reports completed completed2 × HasMemory r.setting r.last r.end memory2 × Kept r.setting first (r.sets ++ stopped)
 HostDid (EndedRun r) completed completed2 memory2 = CountsOn r.setting r.reports completed completed2 × HasMemory r.setting r.last r.end memory2
 HostDid (SomeSteps setting reports) completed completed2 memory2 = CountsOn setting reports completed completed2
 HostDid (Turns counts_behind) completed completed2 memory2 = completed2 ≡ counts_behind completed
@@ -72,13 +74,13 @@ ended end text = told (status_of end) text Nothing
 abbrev pub run_text : HostedRun → List ℕ
 run_text r = text_of (trace_of r.reports) r.last.step r.end
 
--- the same of a run on the host, by the text of its trace
+-- the same of a run from boot on the host, by the text of its trace
 abbrev pub ended_on_host : HostedRun → List Set → Outcome
-ended_on_host r stopping = told (status_of r.end) (run_text r) (KeptRun r stopping)
+ended_on_host r stopping = told (status_of r.end) (run_text r) (KeptRun (boot r.setting) r stopping)
 
 -- what is printed of two runs, of which one is on the host; `work` is done however they ended
 abbrev pub compared : HostedRun → List Set → List ℕ → Outcome
-compared r stopping text = told status.Done text (KeptRun r stopping)
+compared r stopping text = told status.Done text (KeptRun (boot r.setting) r stopping)
 
 -- a run has ended: it was done, or it stopped
 abbrev pub HasEnded : Status → Type 0

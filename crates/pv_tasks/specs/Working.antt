@@ -10,9 +10,8 @@ use Rattle.machine_model.specs.Step.{Report}
 use Rattle.machine_model.specs.Run.{Set, Run, stopping, trace_of}
 use Rattle.bare_machine.specs.FreshRuns.{fresh_run, course_text}
 use Rattle.wedge_core.specs.Promises.{HasOwnFills}
-use Rattle.pv_build.specs.Texts.{Compares}
 use Rattle.pv_build.specs.Building.{Builds}
-use Rattle.pv_build.specs.Comparing.{told_line}
+use Rattle.pv_build.specs.Comparing.{told_line, compared_line}
 use Rattle.pv_tasks.specs.Outcome.{Outcome, refused, compared}
 use Rattle.pv_tasks.specs.Running.{RunsOn}
 use Rattle.pv_tasks.specs.Tasks.{Task, plain}
@@ -39,9 +38,7 @@ pub record RunsTwice (number : ℕ) (image : Image) (w : Outcome) : Type 0 where
   pub second_is : second ≡ text_of (trace_of reports) last.step end
   pub fills : ℕ
   pub filled : HasOwnFills (second_setting image) 100000 512 sets last end run.ends fills
-  pub told : List ℕ
-  pub compares : Compares (first_text image) second told
-  pub comes : w ≡ compared (record { setting = second_setting image; sets = sets; reports = reports; last = last; end = end }) (stopping (second_setting image) 100000 last end run.ends) (told_line number image second fills ++ told)
+  pub comes : w ≡ compared (record { setting = second_setting image; sets = sets; reports = reports; last = last; end = end }) (stopping (second_setting image) 100000 last end run.ends) (told_line number image second fills ++ compared_line (first_text image) second)
 
 -- over what the kernel is built into
 abbrev pub WorksOn : ℕ → Result Image (List ℕ) → Outcome → Type 0

@@ -7,8 +7,8 @@ ghost use Rattle.wedge_core.specs.Surroundings.{around};
 ghost use Rattle.pv_tasks.specs.Outside.{outside};
 ghost use Rattle.pv_tasks.specs.Faulting.{FaultsEnd};
 ghost use Rattle.pv_tasks.specs.Answering.{AnswersOn};
-ghost use Rattle.pv_tasks.specs.Asked.{asked_run};
 ghost use Rattle.pv_tasks.specs.Tasks.{Means, FaultCounts};
+ghost use Rattle.pv_tasks.specs.Running.{run_task};
 
 use crate::patched::patched_run;
 use bare_machine::run_bare;
@@ -31,9 +31,11 @@ pub fn run<F: Files, S: Sink, H: Host>(
 ) -> Status
     requires within { AreWithin words }
     requires room { H.retired host.old ≤ 2 ^ 63 }
-    ensures meaning { Means (asked_run mode words.entry)
+    ensures meaning { Means
+        (run_task mode words.entry.image.now words.entry.script.now words.entry.frames words.entry.n)
         (outside F.Files S.Sink H.Host (files.old, files.new) (out.old, out.new) (host.old, host.new)) result }
-    ensures counts { FaultCounts (asked_run mode words.entry)
+    ensures counts { FaultCounts
+        (run_task mode words.entry.image.now words.entry.script.now words.entry.frames words.entry.n)
         (outside F.Files S.Sink H.Host (files.old, files.new) (out.old, out.new) (host.old, host.new)) }
     ensures host { mode ≡ RunMode.Bare → host.new ≡ host.old }
     ensures ends { FaultsEnd F.Files S.Sink (files.old, files.new) (out.old, out.new) result }

@@ -4,7 +4,6 @@ use Rattle.std.specs.Prelude.{false, bytes_eq}
 use Rattle.std.proofs.lemmas.Slice.Eq.{bytes_eq-Decides}
 use Rattle.pv_io.specs.Causes.{Rose}
 use Rattle.pv_io.specs.Files.{FileMap, Stores, ChangesAt}
-use Rattle.pv_io.specs.Sink.{Appends}
 use Rattle.asm_lex.specs.declared.fault.SourceCause.{SourceCause}
 use Rattle.asm_source.specs.declared.tree.SourceItem.{SourceItem}
 use Rattle.board.specs.Scripts.{Events}
@@ -21,16 +20,14 @@ use Rattle.image_check.specs.Image.{Image}
 use Rattle.image_check.specs.Refusals.{Refusal}
 use Rattle.image_check.specs.Checking.{image_of, image_from, as_form}
 use Rattle.image_check.proofs.Passed.{has_passed}
-use Rattle.image_load.specs.Boot.{need}
-use Rattle.pv_build.specs.Objects.{HasObjects, object_made_line}
-use Rattle.pv_build.specs.Images.{HasImage, ImageReadsBack, accepted_line, image_made_line}
-use Rattle.pv_build.specs.Scripts.{HasScript}
+use Rattle.pv_build.specs.Objects.{HasObjects}
+use Rattle.pv_build.specs.Images.{HasImage, ImageReadsBack}
 use Rattle.pv_build.specs.declared.status.Status.{Status}
 use Rattle.pv_build.specs.declared.status.Status.TheVariants as status
 use Rattle.pv_words.specs.Words.{Command, Burn, Link, Check, RunBare, RunWedge, Work, Share, Save, SaveFrom, Continue, Prove, Replay}
 use Rattle.pv_tasks.specs.Outside.{Outside}
-use Rattle.pv_tasks.specs.Outcome.{Outcome, refused, printed, stored_as}
-use Rattle.pv_tasks.specs.Burning.{HasBurnt, written, burned}
+use Rattle.pv_tasks.specs.Outcome.{Outcome, refused}
+use Rattle.pv_tasks.specs.Burning.{written, burned}
 use Rattle.pv_tasks.specs.Linking.{linked, Links, AllRead, NoObject}
 use Rattle.pv_tool.specs.HeldObjects.{HoldObjects}
 use Rattle.pv_tasks.specs.Checking.{Checks, checked}
@@ -41,10 +38,12 @@ use Rattle.pv_prove.specs.Proving.{ProvesRun}
 use Rattle.pv_prove.specs.Replaying.{Replays}
 use Rattle.pv_tasks.specs.Tasks.{Keeps, FaultCounts, NoLoadFault, NoStoreFault, NoFault, ComesTo, ComesToOne, IsStored, NoStore, NoPut, Means}
 use Rattle.pv_tool.specs.Asked.{task_of}
+use Rattle.pv_tool.specs.Top.{Completes}
+use Rattle.pv_tool.specs.Outcomes.{Unhindered, RefusesWork}
 use Rattle.pv_tasks.proofs.SameFiles.{same_file}
-use Rattle.pv_tasks.proofs.BurnMeanings.{is_burnt, burns_once}
+use Rattle.pv_tasks.proofs.BurnMeanings.{burns_once}
 use Rattle.pv_tasks.proofs.LinkMeanings.{links_once, links_found}
-use Rattle.pv_tasks.proofs.Works.{WithFrames, IsSaved, IsTold, IsRefusal, AreEnds, AreTold, told_saved, ended_refusal, reads_all, reads_once, reads_both, reads_found, frames_all, frames_once, ran}
+use Rattle.pv_tasks.proofs.Works.{WithFrames, IsSaved, IsTold, IsRefusal, AreEnds, AreTold, told_saved, ended_refusal, reads_all, reads_once, reads_found, frames_all, frames_once}
 use Rattle.pv_tasks.proofs.RunMeanings.{bare_ends, bare_told, patched_ends, patched_told}
 use Rattle.pv_tasks.proofs.WorkMeanings.{works_told, works_refusal, works_once}
 use Rattle.pv_share.proofs.ShareLaws.{shares_told, shares_refusal, shares_once, shares_found}
@@ -53,7 +52,7 @@ use Rattle.pv_prove.proofs.ReplayLaws.{proves_ends, proves_saved, replays_told, 
 
 -- ---- what is stored
 
-checks_once : (told : FileMap) (image : List ℕ) (w v : Outcome) → Checks (Some told) image w → Checks (Some told) image v → v ≡ w
+pub checks_once : (told : FileMap) (image : List ℕ) (w v : Outcome) → Checks (Some told) image w → Checks (Some told) image v → v ≡ w
 checks_once told image w v h k =
     let same = same_file told image k.0 h.0 k.1 h.1 in
     k.2 ∙ (ap (λ (f : List ℕ). checked (image_of f)) same ∙ sym h.2)
@@ -180,12 +179,18 @@ came_to command o status.WriteFault none found (inr h) = absurd (none.puts h.ros
 came_to command o status.Memory none found h = absurd (found refl)
 came_to command o status.Words none found h = absurd h
 
+-- the work's outcome over files that are told
+abbrev pub Came : Command → Outside → FileMap → Status → Type 0
+Came command o told st = (w : Outcome) × (task_of command).gives (Some told) w × ComesTo w o st
+
+pub came_over : (words : List (List ℕ)) (command : Command) (told : FileMap) (o : Outside) (st : Status) → Completes words o st → Unhindered words command told o st → Came command o told st
+came_over words command told o st complete free =
+    let w = complete command free.asks free.no_fault free.memory in
+    (w.0, subst (λ (f : Option FileMap). (task_of command).gives f w.0) free.files w.1, w.2)
+
 -- work that can have one outcome only has that one
-pub comes_to : (command : Command) (o : Outside) (told : FileMap) (w : Outcome) (st : Status) → o.before.files ≡ Some told
-    → ((v : Outcome) → (task_of command).gives (Some told) v → v ≡ w) → NoFault (task_of command) o → st ≢ status.Memory → Means (task_of command) o st → ComesTo w o st
-comes_to command o told w st files only none found h =
-    let c = came_to command o st none found h in
-    subst (λ (v : Outcome). ComesTo v o st) (only c.0 (subst (λ (f : Option FileMap). (task_of command).gives f c.0) files c.1)) c.2
+pub comes_to : (command : Command) (o : Outside) (told : FileMap) (w : Outcome) (st : Status) → ((v : Outcome) → (task_of command).gives (Some told) v → v ≡ w) → Came command o told st → ComesTo w o st
+comes_to command o told w st only c = subst (λ (v : Outcome). ComesTo v o st) (only c.0 c.1) c.2
 
 -- ---- refusals
 
@@ -259,55 +264,24 @@ refused_alone (Prove image script frames n certificate) files w h = runs_refusal
 refused_alone (Replay image script frames n certificate text) files w h =
     reads_all IsRefusal (Replays frames n files certificate text) files image script w line_refusal (λ i e v r. replays_refusal frames n files certificate text i e v r) h
 
-pub refused_again : (command : Command) (o : Outside) (told : FileMap) (w : Outcome) (st : Status) → o.before.files ≡ Some told → (task_of command).gives (Some told) w → w.status ≡ status.Refused
-    → NoFault (task_of command) o → st ≢ status.Memory → Means (task_of command) o st
-    → (st ≡ status.Refused) × (o.after.files ≡ o.before.files) × Appends o.before.taken o.after.taken w.text
-refused_again command o told w st files gives is none found h =
-    let came = comes_to command o told w st files (refused_once command told w is gives) none found h in
+pub refused_again : (words : List (List ℕ)) (o : Outside) (st : Status) → Completes words o st → RefusesWork words o st
+refused_again words o st complete command told w free gives is =
+    let came = comes_to command o told w st (refused_once command told w is gives) (came_over words command told o st complete free) in
     let here = subst (λ (v : Outcome). ComesTo v o st) (refused_alone command (Some told) w gives is) came in
     (here.0, here.1, here.2)
 
--- ---- completeness of `run`
-
-pub run_ends : (image script : List ℕ) (frames n : ℕ) (o : Outside) (told : FileMap) (program : Image) (events : Events) (st : Status) → o.before.files ≡ Some told
-    → HasImage (Some told) image program → HasScript (Some told) script events → need program ≤ frames
-    → NoFault (task_of (RunBare image script frames n)) o → st ≢ status.Memory → Means (task_of (RunBare image script frames n)) o st
-    → ComesToOne (RunsBare frames n program events) o st
-run_ends image script frames n o told program events st files has says le none found h =
-    let w = came_to (RunBare image script frames n) o st none found h in
-    let gives = subst (λ (f : Option FileMap). Runs (RunsBare frames n) frames f image script w.0) files w.1 in
-    (w.0, ran (RunsBare frames n) frames program events w.0 le (reads_both (WithFrames (RunsBare frames n) frames) told image script program events w.0 has says gives), w.2)
-
--- ---- completeness of the others
-
-pub burn_completes : (source object : List ℕ) (o : Outside) (told : FileMap) (parts : ObjectParts) (st : Status) → o.before.files ≡ Some told → HasBurnt (Some told) source parts
-    → NoFault (task_of (Burn source object)) o → st ≢ status.Memory → Means (task_of (Burn source object)) o st
-    → ComesTo (stored_as object (object_bytes parts) (object_made_line parts)) o st
-burn_completes source object o told parts st files has none found h =
-    let w = stored_as object (object_bytes parts) (object_made_line parts) in
-    let gives = is_burnt (Some told) source object (object_bytes parts) (object_made_line parts) parts has refl refl in
-    comes_to (Burn source object) o told w st files (λ v k. burns_once told source object w v gives k) none found h
-
-pub link_completes : (image : List ℕ) (objects : List (List ℕ)) (o : Outside) (told : FileMap) (os : List ObjectParts) (parts : ImageParts) (st : Status) → o.before.files ≡ Some told
-    → HasObjects (Some told) objects os → linked_image os ≡ Ok parts
-    → NoFault (task_of (Link image objects)) o → st ≢ status.Memory → Means (task_of (Link image objects)) o st
-    → ComesTo (stored_as image (image_bytes parts) (image_made_line parts)) o st
-link_completes image objects o told os parts st files all made none found h =
-    let w = stored_as image (image_bytes parts) (image_made_line parts) in
-    let gives : Links (Some told) image objects w = AllRead os all (sym (ap (linked image) made)) in
-    comes_to (Link image objects) o told w st files (λ v k. links_once told image objects w v gives k) none found h
-
-pub check_completes : (image : List ℕ) (o : Outside) (told : FileMap) (program : Image) (st : Status) → o.before.files ≡ Some told → HasImage (Some told) image program
-    → NoFault (task_of (Check image)) o → st ≢ status.Memory → Means (task_of (Check image)) o st
-    → ComesTo (printed (accepted_line program)) o st
-check_completes image o told program st files has none found h =
-    let w = printed (accepted_line program) in
-    comes_to (Check image) o told w st files (λ v k. checks_once told image w v (has.0, has.1, sym (ap checked has.2)) k) none found h
-
 -- ---- over the words
+
+-- the work of a command doesn't end as words of no form
+pub no_words : {R : Type 0} → (command : Command) (o : Outside) (st : Status) → Means (task_of command) o st → st ≡ status.Words → R
+no_words command o st h is = absurd (subst (λ (s : Status). Means (task_of command) o s) is h)
 
 same_command : (a b : Command) (form : Option Command) → Some a ≡ form → form ≡ Some b → a ≡ b
 same_command a b form is be = cc
+
+-- nor do words of no form end as a read fault
+pub no_fault : status.Words ≡ status.ReadFault → ⊥
+no_fault is = cc
 
 -- words of no form ask for no command
 pub asks_nothing : {R : Type 0} → (form : Option Command) (command : Command) → None ≡ form → form ≡ Some command → R

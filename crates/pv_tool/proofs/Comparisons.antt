@@ -1,42 +1,26 @@
 -- What `work` promises, where it is done.
-use Rattle.std.proofs.Common.{◌≡◌, ◌≢◌, inl, inr, ℕ, zero, suc, ◌+◌, ◌≤◌, false, List, [], ◌∷◌, Option, Some, Result, Ok, Err, refl, sym, ap, subst, ◌∙◌, arith}
-use Rattle.std.specs.Prelude.{◌↔◌}
+use Rattle.std.proofs.Common.{◌≡◌, ◌≢◌, inl, inr, ℕ, ◌≤◌, List, [], ◌∷◌, Result, Ok, Err, refl, sym, ap, subst, ◌∙◌, arith}
 use Rattle.pv_io.specs.Causes.{Rose}
 use Rattle.kernel_gen.specs.Kernels.{kernel_text}
 use Rattle.image_check.specs.Image.{Image}
 use Rattle.image_load.specs.Boot.{need}
 use Rattle.machine_model.specs.State.{boot}
 use Rattle.machine_model.specs.Agreement.{RunsAgree}
-use Rattle.pv_build.specs.Lines.{same_line, differ_line}
-use Rattle.pv_build.specs.Texts.{lines, DifferBehind, Compares, Same, Differ}
+use Rattle.pv_build.proofs.LineTexts.{same_exactly}
 use Rattle.pv_build.specs.Building.{Builds}
 use Rattle.pv_build.specs.declared.status.Status.{Status}
 use Rattle.pv_build.specs.declared.status.Status.TheVariants as status
-use Rattle.pv_words.specs.Words.{Command, Work}
+use Rattle.pv_words.specs.Words.{Work, Asks}
 use Rattle.pv_tasks.specs.Outside.{Outside}
 use Rattle.pv_tasks.specs.Outcome.{Outcome}
 use Rattle.pv_tasks.specs.Running.{Ran, Small}
 use Rattle.pv_tasks.specs.Working.{RunsTwice, WorksOn, Works, first_text, second_setting}
 use Rattle.pv_tool.specs.Comparison.{IsComparison, HasComparison}
+use Rattle.pv_tool.specs.Top.{Meaning, LoadsNone}
+use Rattle.pv_tool.specs.Outcomes.{WorkDone, WorkRefused}
 use Rattle.pv_tasks.specs.Tasks.{Means, ComesTo, ComesToOne, NoStore, NoPut}
 use Rattle.pv_tool.specs.Asked.{task_of, reads_files}
 use Rattle.pv_tasks.proofs.WorkMeanings.{builds_once, works_none, works_once}
-
-no_difference : (xs : List (List ℕ)) (n : ℕ) → DifferBehind xs xs n → ⊥
-no_difference [] n h = h
-no_difference (x ∷ xs) zero h = h refl
-no_difference (x ∷ xs) (suc n) h = no_difference xs n h.1
-
-differ_is_not_same : (n : ℕ) → differ_line n ≡ same_line → ⊥
-differ_is_not_same n is = cc
-
--- texts are reported to be the same exactly where they are
-pub same_exactly : (first second told : List ℕ) → Compares first second told → (told ≡ same_line) ↔ (first ≡ second)
-same_exactly first second told (Same same is) = (λ line. same, λ again. is)
-same_exactly first second told (Differ n differ is) = (
-  λ line. absurd (differ_is_not_same (n + 1) (sym is ∙ line)),
-  λ same. absurd (no_difference (lines second) n (subst (λ (t : List ℕ). DifferBehind (lines t) (lines second) n) same differ)),
-)
 
 -- both lines of two runs were printed
 is_comparison : RunsAgree → (number : ℕ) (program : Image) (o : Outside) (st : Status) (w : Outcome) → RunsTwice number program w → ComesTo w o st → IsComparison number program o
@@ -47,10 +31,8 @@ is_comparison agree number program o st w run came =
       count = run.last.step;
       end = run.end;
       fills = run.fills;
-      told = run.told;
-      same = same_exactly (first_text program) run.second run.told run.compares;
-      compares = run.compares;
       printed = here.2;
+      same = same_exactly (first_text program) run.second;
       promise = record {
         sets = run.sets;
         reports = run.reports;
@@ -102,27 +84,24 @@ came_to_work number o status.WriteFault none found read (inr h) = absurd (none h
 came_to_work number o status.Memory none found read h = absurd (found refl)
 came_to_work number o status.Words none found read h = absurd h
 
+-- `work` reads no file
+no_load : (words : List (List ℕ)) (number : ℕ) (st : Status) → Asks words (Work number) → LoadsNone words st → st ≢ status.ReadFault
+no_load words number st asks loads = loads (ap reads_files asks)
+
 ran_twice : (number : ℕ) (program : Image) (w : Outcome) → need program ≤ 4096 → WorksOn number (Ok program) w → RunsTwice number program w
 ran_twice number program w le (Ran fits run) = run
 ran_twice number program w le (Small lt is) = absurd (omega (arith, le, lt))
 
 -- a kernel that is built into an image, for which there are frames, is run twice
-pub work_completes : RunsAgree → (number : ℕ) (program : Image) (o : Outside) (st : Status) → Builds (kernel_text number) (Ok program) → need program ≤ 4096
-    → (Rose o.before.puts o.after.puts → ⊥) → st ≢ status.Memory → st ≢ status.ReadFault → Means (task_of (Work number)) o st → (st ≡ status.Done) × IsComparison number program o
-work_completes agree number program o st builds le none found read h =
-    let c = came_to_work number o st none found read h in
+pub work_completes : RunsAgree → (words : List (List ℕ)) (o : Outside) (st : Status) → Meaning words o st → LoadsNone words st → WorkDone words o st
+work_completes agree words o st means loads number program asks builds le none found =
+    let c = came_to_work number o st none found (no_load words number st asks loads) (means (Work number) asks) in
     let made = builds_once (kernel_text number) (Ok program) c.1.made builds c.1.builds in
     let run = ran_twice number program c.0 le (subst (λ (m : Result Image (List ℕ)). WorksOn number m c.0) made c.1.comes) in
     (c.2.0 ∙ ap (λ (v : Outcome). v.status) run.comes, is_comparison agree number program o st c.0 run c.2)
 
 -- a refusal of the kernel is reported
-pub work_refuses : (number : ℕ) (w : Outcome) (o : Outside) (st : Status) → Works number w → w.status ≡ status.Refused
-    → (Rose o.before.puts o.after.puts → ⊥) → st ≢ status.Memory → st ≢ status.ReadFault → Means (task_of (Work number)) o st → ComesTo w o st
-work_refuses number w o st works is none found read h =
-    let c = came_to_work number o st none found read h in
+pub work_refuses : (words : List (List ℕ)) (o : Outside) (st : Status) → Meaning words o st → LoadsNone words st → WorkRefused words o st
+work_refuses words o st means loads number w asks works is none found =
+    let c = came_to_work number o st none found (no_load words number st asks loads) (means (Work number) asks) in
     subst (λ (v : Outcome). ComesTo v o st) (works_once number w c.0 is works c.1) c.2
-
--- `work` answers no read fault, where it is what the words ask for
-pub no_load : (a : Command) (form : Option Command) (same : Type 0) (st : Status) → Some a ≡ form → (reads_files (Some a) ≡ false → same × (st ≢ status.ReadFault))
-    → (number : ℕ) → form ≡ Some (Work number) → st ≢ status.ReadFault
-no_load a form same st is h number be = (h (ap reads_files (is ∙ be))).1

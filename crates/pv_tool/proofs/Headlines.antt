@@ -1,26 +1,25 @@
 -- The headline, of a run that has ended.
-use Rattle.std.proofs.Common.{◌≡◌, ◌≢◌, ℕ, ◌≤◌, List, Option, Some, refl, subst}
-use Rattle.pv_io.specs.Files.{FileMap}
+use Rattle.std.proofs.Common.{ℕ, List, refl, subst}
 use Rattle.board.specs.Scripts.{Events}
 use Rattle.image_check.specs.Image.{Image}
-use Rattle.image_load.specs.Boot.{need}
 use Rattle.run_trace.specs.Text.{text_of}
 use Rattle.machine_model.specs.State.{boot, wedge}
 use Rattle.machine_model.specs.Run.{trace_of}
 use Rattle.machine_model.specs.Agreement.{RunsAgree}
-use Rattle.pv_build.specs.Images.{HasImage}
-use Rattle.pv_build.specs.Scripts.{HasScript}
 use Rattle.pv_build.specs.declared.status.Status.{Status}
 use Rattle.pv_build.specs.declared.status.Status.TheVariants as status
 use Rattle.pv_words.specs.Words.{RunWedge}
 use Rattle.pv_tasks.specs.Outside.{Outside}
 use Rattle.pv_tasks.specs.Outcome.{Outcome, HasEnded}
-use Rattle.pv_tasks.specs.Running.{RunsPatched, Runs}
-use Rattle.pv_tasks.specs.Tasks.{Means, NoFault, ComesToOne, ComesTo}
+use Rattle.pv_tasks.specs.Running.{RunsPatched}
+use Rattle.pv_tasks.specs.Tasks.{Means, ComesToOne, ComesTo}
 use Rattle.pv_tool.specs.Asked.{task_of}
 use Rattle.pv_tool.specs.Headline.{IsHeadline, HasHeadline}
-use Rattle.pv_tasks.proofs.Works.{WithFrames, reads_both, reads_began, ran, ended_ran}
-use Rattle.pv_tool.proofs.CommandLaws.{came_to}
+use Rattle.pv_tool.specs.Top.{Completes}
+use Rattle.pv_tool.specs.Outcomes.{RunsOnHost}
+use Rattle.pv_tasks.proofs.Works.{WithFrames, reads_began, ran, ended_ran}
+use Rattle.pv_tool.proofs.CommandLaws.{came_over}
+use Rattle.pv_tool.proofs.Completes.{run_came}
 
 -- a run of the patched image that was printed
 is_headline : RunsAgree → (frames n : ℕ) (program : Image) (events : Events) (o : Outside) (st : Status) (w : Outcome) → RunsPatched frames n program events w → ComesTo w o st
@@ -75,12 +74,8 @@ has_headline agree image script frames n o status.WriteFault ended h = absurd en
 has_headline agree image script frames n o status.Memory ended h = absurd ended
 
 -- where no fault came and memory was found, the run of an accepted image has ended
-pub wedge_ends : RunsAgree → (image script : List ℕ) (frames n : ℕ) (o : Outside) (told : FileMap) (program : Image) (events : Events) (st : Status) → o.before.files ≡ Some told
-    → HasImage (Some told) image program → HasScript (Some told) script events → need program ≤ frames
-    → NoFault (task_of (RunWedge image script frames n)) o → st ≢ status.Memory → Means (task_of (RunWedge image script frames n)) o st
-    → IsHeadline program events frames n o st
-wedge_ends agree image script frames n o told program events st files has says le none found h =
-    let w = came_to (RunWedge image script frames n) o st none found h in
-    let gives = subst (λ (f : Option FileMap). Runs (RunsPatched frames n) frames f image script w.0) files w.1 in
-    let run = ran (RunsPatched frames n) frames program events w.0 le (reads_both (WithFrames (RunsPatched frames n) frames) told image script program events w.0 has says gives) in
-    is_headline agree frames n program events o st w.0 run w.2
+pub wedge_completes : RunsAgree → (words : List (List ℕ)) (o : Outside) (st : Status) → Completes words o st → RunsOnHost words o st
+wedge_completes agree words o st complete image script frames n told program events free has le =
+    let command = RunWedge image script frames n in
+    let ran = run_came command (RunsPatched frames n) frames image script o told program events st (λ w g. g) has.image_held has.script_held le (came_over words command told o st complete free) in
+    is_headline agree frames n program events o st ran.0 ran.1 ran.2

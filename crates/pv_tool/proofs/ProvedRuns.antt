@@ -1,5 +1,5 @@
 -- What `prove` and `replay` show, where they have ended.
-use Rattle.std.proofs.Common.{◌≡◌, ◌≢◌, ℕ, ◌≤◌, List, ◌++◌, Option, Some, Result, Ok, Err, refl, sym, ap, subst, ◌∙◌, arith}
+use Rattle.std.proofs.Common.{◌≡◌, ℕ, ◌≤◌, List, ◌++◌, Option, Some, Result, Ok, Err, refl, sym, ap, subst, ◌∙◌, arith}
 use Rattle.std.proofs.lemmas.Bool.{leb-true}
 use Rattle.std.specs.Prelude.{length}
 use Rattle.pv_io.specs.Files.{FileMap, Holds}
@@ -16,25 +16,26 @@ use Rattle.trace_check.specs.Judged.{judged}
 use Rattle.trace_check.specs.RunLaws.{YesIsARun, YesBeforeIsSteps}
 use Rattle.trace_check.proofs.Inverse.{laid_read}
 use Rattle.pv_prove.specs.CertificateLines.{certificate_refusal, verdict_line}
-use Rattle.pv_build.specs.Images.{HasImage}
-use Rattle.pv_build.specs.Scripts.{HasScript}
 use Rattle.pv_prove.specs.Certificates.{HasChoices}
 use Rattle.pv_build.specs.declared.status.Status.{Status}
 use Rattle.pv_build.specs.declared.status.Status.TheVariants as status
 use Rattle.pv_words.specs.Words.{Prove, Replay}
 use Rattle.pv_tasks.specs.Outside.{Outside}
 use Rattle.pv_tasks.specs.Outcome.{Outcome, HasEnded, refused, printed}
-use Rattle.pv_tasks.specs.Running.{Ran, Small, Reads, Runs}
+use Rattle.pv_tasks.specs.Running.{Ran, Small}
 use Rattle.pv_prove.specs.Proving.{ProvesRun}
 use Rattle.pv_prove.specs.Replaying.{ByChoices, Replays, Judges}
 use Rattle.pv_tool.specs.Certified.{IsProof, HasProof, HasVerdict}
-use Rattle.pv_tasks.specs.Tasks.{Means, NoFault, ComesToOne, ComesTo, IsStored}
+use Rattle.pv_tool.specs.Top.{Completes}
+use Rattle.pv_tool.specs.Outcomes.{ProvesAll, JudgesAll}
+use Rattle.pv_tasks.specs.Tasks.{Means, ComesToOne, ComesTo, IsStored}
 use Rattle.pv_tool.specs.Asked.{task_of}
 use Rattle.pv_prove.proofs.ProveMeanings.{few}
 use Rattle.pv_tasks.proofs.Works.{WithFrames, reads_both, reads_began, ran, ended_ran}
 use Rattle.pv_prove.proofs.ReplayLaws.{by_choices}
 use Rattle.pv_tasks.proofs.SameFiles.{same_file}
-use Rattle.pv_tool.proofs.CommandLaws.{came_to}
+use Rattle.pv_tool.proofs.CommandLaws.{came_over}
+use Rattle.pv_tool.proofs.Completes.{run_came}
 
 -- ---- `prove`
 
@@ -85,15 +86,11 @@ has_proof agree image script frames n certificate o status.WriteFault ended h = 
 has_proof agree image script frames n certificate o status.Memory ended h = absurd ended
 
 -- where no fault came and memory was found, the run of an accepted image has ended, and its certificate was stored
-pub proof_ends : RunsAgree → (image script : List ℕ) (frames n : ℕ) (certificate : List ℕ) (o : Outside) (told : FileMap) (program : Image) (events : Events) (st : Status) → o.before.files ≡ Some told
-    → HasImage (Some told) image program → HasScript (Some told) script events → need program ≤ frames
-    → NoFault (task_of (Prove image script frames n certificate)) o → st ≢ status.Memory → Means (task_of (Prove image script frames n certificate)) o st
-    → IsProof program events frames n certificate o st
-proof_ends agree image script frames n certificate o told program events st files has says le none found h =
-    let w = came_to (Prove image script frames n certificate) o st none found h in
-    let gives = subst (λ (f : Option FileMap). Runs (ProvesRun frames n certificate) frames f image script w.0) files w.1 in
-    let run = ran (ProvesRun frames n certificate) frames program events w.0 le (reads_both (WithFrames (ProvesRun frames n certificate) frames) told image script program events w.0 has says gives) in
-    is_proof agree frames n certificate program events o st w.0 run w.2
+pub prove_completes : RunsAgree → (words : List (List ℕ)) (o : Outside) (st : Status) → Completes words o st → ProvesAll words o st
+prove_completes agree words o st complete image script frames n certificate told program events free has le =
+    let command = Prove image script frames n certificate in
+    let ran = run_came command (ProvesRun frames n certificate) frames image script o told program events st (λ w g. g) has.image_held has.script_held le (came_over words command told o st complete free) in
+    is_proof agree frames n certificate program events o st ran.0 ran.1 ran.2
 
 -- ---- `replay`
 
@@ -151,15 +148,11 @@ judges_fits : (frames n : ℕ) (program : Image) (events : Events) (list : List 
 judges_fits frames n program events list bytes w le (Ran fits is) = is
 judges_fits frames n program events list bytes w le (Small lt is) = absurd (omega (arith, le, lt))
 
-pub verdict_ends : (image script : List ℕ) (frames n : ℕ) (certificate text : List ℕ) (o : Outside) (told : FileMap) (program : Image) (events : Events) (list : List Choice) (bytes : List ℕ) (st : Status) → o.before.files ≡ Some told
-    → HasImage (Some told) image program → HasScript (Some told) script events → HasChoices (Some told) certificate list → told text ≡ Some bytes → need program ≤ frames
-    → NoFault (task_of (Replay image script frames n certificate text)) o → st ≢ status.Memory → Means (task_of (Replay image script frames n certificate text)) o st
-    → ComesTo (printed (verdict_line (judged program events frames n list bytes))) o st
-verdict_ends image script frames n certificate text o told program events list bytes st files has says choices holds le none found h =
-    let w = came_to (Replay image script frames n certificate text) o st none found h in
-    let gives = subst (λ (f : Option FileMap). Reads (Replays frames n f certificate text) f image script w.0) files w.1 in
-    let replays = reads_both (Replays frames n (Some told) certificate text) told image script program events w.0 has says gives in
-    let b = by_choices frames n told certificate text program events list w.0 choices replays in
+pub replay_completes : (words : List (List ℕ)) (o : Outside) (st : Status) → Completes words o st → JudgesAll words o st
+replay_completes words o st complete image script frames n certificate text told program events list bytes free has choices holds le =
+    let c = came_over words (Replay image script frames n certificate text) told o st complete free in
+    let replays = reads_both (Replays frames n (Some told) certificate text) told image script program events c.0 has.image_held has.script_held c.1 in
+    let b = by_choices frames n told certificate text program events list c.0 choices replays in
     let same = same_file told text b.0 bytes b.1 holds in
-    let judges = subst (λ (f : List ℕ). Judges frames n program events list f w.0) same b.2 in
-    subst (λ (v : Outcome). ComesTo v o st) (judges_fits frames n program events list bytes w.0 le judges) w.2
+    let judges = subst (λ (f : List ℕ). Judges frames n program events list f c.0) same b.2 in
+    subst (λ (v : Outcome). ComesTo v o st) (judges_fits frames n program events list bytes c.0 le judges) c.2

@@ -11,9 +11,8 @@ use Rattle.machine_model.specs.OnBare.{bound_on_bare, end_on_bare}
 use Rattle.bare_machine.specs.Settings.{bare}
 use Rattle.wedge_core.specs.Promises.{Promise, HasOwnFills}
 use Rattle.pv_build.specs.Lines.{same_line}
-use Rattle.pv_build.specs.Texts.{Compares}
 use Rattle.pv_build.specs.Building.{Builds}
-use Rattle.pv_build.specs.Comparing.{told_line}
+use Rattle.pv_build.specs.Comparing.{told_line, compared_line}
 use Rattle.pv_tasks.specs.Outside.{Outside}
 use Rattle.pv_tasks.specs.Working.{first_text, second_setting}
 
@@ -25,12 +24,10 @@ pub record IsComparison (number : ℕ) (program : Image) (o : Outside) : Type 0 
   pub end : End
   -- how many pages were filled in it
   pub fills : ℕ
-  -- The second line is `same` exactly where the first run's text, which is a function of the image, is equal to the second's.
-  -- Else it names the first line that differs or is missing.
-  pub told : List ℕ
-  pub same : (told ≡ same_line) ↔ (first_text program ≡ second)
-  pub compares : Compares (first_text program) second told
-  pub printed : Appends o.before.taken o.after.taken (told_line number program second fills ++ told)
+  -- Both lines are printed. The second is `same` exactly where the first run's text, which is a function of the image, is equal to
+  -- the second's. Else it names the first line that differs or is missing.
+  pub printed : Appends o.before.taken o.after.taken (told_line number program second fills ++ compared_line (first_text program) second)
+  pub same : (compared_line (first_text program) second ≡ same_line) ↔ (first_text program ≡ second)
   -- The second text is that of one run from boot under the monitor's rules. The host completed its direct instructions, no
   -- more and no fewer, and after all steps its first frames are this run's memory with the text patched.
   pub promise : Promise (second_setting program) 100000 512 second count end o.before.completed o.after.completed o.after.memory

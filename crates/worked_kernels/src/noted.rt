@@ -109,6 +109,78 @@ pub const SPOILED_SECOND: &str = "\
 39 39
 ";
 
+/// Two directories, in the frames 0x20 and 0x21, map the text and the first 4 MB by the tables that the boot made, and the page
+/// at 0x11400000 by a table of their own, in the frames 0x22 and 0x23. In each the page is read, in step 16 and 34, its PTE is
+/// changed, and CR0.WP, in step 22 and 40; the page is read again in step 25 and 43, and shown.
+pub const CHANGES_IN_TWO_SPACES: &str = "\
+_start: movl $0x14003,0xC0020100
+movl $0x4003,0xC0020C00
+movl $0x22003,0xC0020114
+movl $0x14003,0xC0021100
+movl $0x4003,0xC0021C00
+movl $0x23003,0xC0021114
+movl $0x30003,0xC0022000
+movl $0x32003,0xC0023000
+movl $1,0xC0030000
+movl $2,0xC0031000
+movl $3,0xC0032000
+movl $4,0xC0033000
+movl $0x20000,%eax
+movl %eax,%cr3
+movl 0x11400000,%eax
+movl $0x31003,0xC0022000
+movl %cr0,%eax
+xorl $0x10000,%eax
+movl %eax,%cr0
+movl 0x11400000,%eax
+outl %eax,$0x80
+movl $0x21000,%eax
+movl %eax,%cr3
+movl 0x11400000,%eax
+movl $0x33003,0xC0023000
+movl %cr0,%eax
+xorl $0x10000,%eax
+movl %eax,%cr0
+movl 0x11400000,%eax
+outl %eax,$0x80
+";
+
+/// What it shows in 48 steps: the changed words, since a monitor drops all translations after a change of CR0.WP.
+pub const SHOWN_IN_TWO_SPACES: &str = "\
+26 out32 0080 00000002
+44 out32 0080 00000004
+end steps 48
+";
+
+/// What is said of that text by two entries. On the bare machine the translation of a page that was read stays, unless it, or all,
+/// is dropped before the page is read again. A load of CR3, in step 13 and 31, drops all before. A page is added by a walk of the
+/// directory that CR3 has then: before step 30 the first space's, in which it was read, and before step 32 the second's, in which
+/// it wasn't.
+pub const WITH_TWO_DROPS: &str = "\
+yes|23 0 1|41 0 1
+yes|17 0 1|35 0 1
+yes|25 70656 0|43 70656 0
+no line 1|26 0 1|41 0 1
+no line 2|23 0 1|31 0 1
+no line 2|23 0 1|34 0 1
+no line 2|23 0 1|44 0 1
+no line 2|23 0 1|41 70657 0
+no line 2|23 0 1|30 70656 2
+no entry 1|23 0 1|32 70656 2
+no entry 0|25 70656 2|41 0 1
+";
+
+/// The place printed for its certificate where the byte there is 255: a step that falls, a page beside kind 1, a page that is too
+/// large, and a kind.
+pub const SPOILED_SPACES: &str = "\
+8 24
+15 24
+32 36
+35 32
+36 36
+39 39
+";
+
 /// Of an image that needs 2,305 frames and a certificate C: that is read before, and X is none.
 pub const NEEDS_MORE_FRAMES: &str = "\
 $ build

@@ -9,9 +9,10 @@ use pv_io::MemFiles;
 use std::alloc::Global;
 use std::process::Abort;
 use worked_kernels::{
-    CHANGES_WRITE_PROTECTION, GOES_OVER_600_TABLES, GOES_OVER_FORTY_TABLES, NEEDS_MORE_FRAMES,
-    READS_ITS_TEXT, SENDS_A_BYTE, SHOWN_AFTER_600_TABLES, SHOWN_AFTER_THE_CHANGE, SPOILED_SECOND,
-    WITH_ONE_DROP,
+    CHANGES_IN_TWO_SPACES, CHANGES_WRITE_PROTECTION, GOES_OVER_600_TABLES, GOES_OVER_FORTY_TABLES,
+    NEEDS_MORE_FRAMES, READS_ITS_TEXT, SENDS_A_BYTE, SHOWN_AFTER_600_TABLES,
+    SHOWN_AFTER_THE_CHANGE, SHOWN_IN_TWO_SPACES, SPOILED_SECOND, SPOILED_SPACES, WITH_ONE_DROP,
+    WITH_TWO_DROPS,
 };
 
 const HAS_A_LARGE_PAGE: &str = "\
@@ -349,6 +350,32 @@ fn a_pool_that_runs_out_twice_gives_two_entries(rt: HostRuntime) {
     let bad = with_two(&rt, alloc, "4411 0 1", "6423 262145 2");
     store(&rt, &mut files, "C", &bad);
     is_judged(&rt, alloc, &mut files, "8000", "no entry 1\n");
+}
+
+#[test]
+fn a_change_in_each_of_two_spaces_is_an_entry(rt: HostRuntime) {
+    let alloc = rt.alloc();
+    let mut files = built(&rt, alloc, CHANGES_IN_TWO_SPACES.as_bytes());
+    let certificate = with_two(&rt, alloc, "23 0 1", "41 0 1");
+    let text = SHOWN_IN_TWO_SPACES;
+    let last = "certificate 2 entries";
+    stores(&rt, alloc, &mut files, "48", text, last, &certificate);
+    is_cut_after_one(&rt, alloc, &mut files, &certificate);
+    for line in SPOILED_SPACES.lines() {
+        is_spoiled(&rt, alloc, &mut files, &certificate, line);
+    }
+    for line in WITH_TWO_DROPS.lines() {
+        drops_are_told(&rt, alloc, &mut files, line);
+    }
+}
+
+/// What a line says is said of the text of 48 steps by its two entries.
+fn drops_are_told(rt: &impl Abort, alloc: Global, files: &mut MemFiles, line: &str) {
+    let (told, entries) = cut(rt, line, '|');
+    let (first, second) = cut(rt, entries, '|');
+    store(rt, files, "C", &with_two(rt, alloc, first, second));
+    let told = text_of(rt, alloc, &[told, "\n"]);
+    is_judged(rt, alloc, files, "48", &told);
 }
 
 /// A certificate with two entries is refused at each length from the first one's end on.

@@ -1,4 +1,4 @@
-use Rattle.std.proofs.Common.{ℕ, ◌/◌, length, refl, subst}
+use Rattle.std.proofs.Common.{ℕ, ◌/◌, [], length, refl, ap, subst}
 use Rattle.machine_model.specs.State as model
 use Rattle.machine_model.specs.State.{wedge}
 use Rattle.wedge_step.specs.Scene.{scene, state_in}
@@ -15,6 +15,11 @@ whole-requires-clause-between g c = seated_between _ _ _ _ c.in-Ok.ensures.goes_
 
 pub whole-requires-clause-filled : goal.whole-requires-clause-filled
 whole-requires-clause-filled g c = c.in-Ok.ensures.goes_on.filled
+
+pub whole-requires-clause-bare : goal.whole-requires-clause-bare
+whole-requires-clause-bare g c =
+    let goes = c.in-Ok.ensures.goes_on in
+    record { empty_set = ap (λ (b : model.State). b.set) (goes.state []); two = goes.two; others = goes.free; silent = refl }
 
 pub returns-in-Err : goal.returns-in-Err
 returns-in-Err g c = record {

@@ -1,5 +1,5 @@
 use Rattle.std.proofs.Common.{rules, ap, length, ◌∙◌, ◌-◌, List, ℕ}
-use Rattle.pv_build.specs.Texts.{lines}
+use Rattle.trace_check.specs.Lines.{lines}
 use Rattle.pv_build.proofs.WorkLines.{tells_both, work_line_is}
 use Rattle.pv_build.proofs.comparing.tell_both.Goals as goal
 

@@ -1,5 +1,5 @@
 use Rattle.std.proofs.Common.{◌≡◌, ◌+◌, ◌≤◌, drop, length}
-use Rattle.pv_build.specs.Texts.{lines}
+use Rattle.trace_check.specs.Lines.{lines}
 use Rattle.pv_build.proofs.LineTexts.{begin_in}
 use Rattle.pv_build.proofs.texts.count_lines.Given as goal
 

@@ -3,13 +3,15 @@ use Rattle.pv_tasks.specs.Beside.{beside}
 use Rattle.pv_tasks.proofs.Deliveries.{halts, counts_read}
 use Rattle.pv_prove.proofs.ReplayMeanings.{no_replay, judges_puts, replay_means}
 use Rattle.pv_tasks.proofs.Faults.{ends_halted, ends_same}
-use Rattle.pv_prove.specs.Asked.{asked_replay}
+use Rattle.pv_prove.specs.Replaying.{replay_task}
 use Rattle.pv_prove.proofs.replaying.replay.Goals as goal
 
 pub returns-in-Err-clause-meaning : goal.returns-in-Err-clause-meaning
-returns-in-Err-clause-meaning g c = λ completed memory.
+returns-in-Err-clause-meaning g c =
+    let task = replay_task c.args.words.image.now c.args.words.script.now c.args.words.frames c.args.words.n c.args.certificate.now c.args.text.now in
+    λ completed memory.
     let words = c.args.words in
-    halts _ _ (asked_replay words c.args.certificate.now c.args.text.now) _ c.end.result c.in-Err.halt
+    halts _ _ task _ c.end.result c.in-Err.halt
     (λ line none. no_replay words.frames words.n (g.F.Files.held c.args.files.now) words.image.now words.script.now c.args.certificate.now c.args.text.now line none) (λ found. found) c.in-Err.ensures.read.held
     refl c.in-Err.ensures.halted c.end.ensures
 
@@ -23,12 +25,16 @@ returns-in-Ok-clause-meaning g c = λ completed memory.
     found.runnable.image found.runnable.script.list found.choices.list found.text.items h.image h.script h.choices h.text h.read.held refl c.judge.ensures
 
 pub returns-in-Err-clause-counts : goal.returns-in-Err-clause-counts
-returns-in-Err-clause-counts g c = λ completed memory.
-    counts_read g.F.Files g.S.Sink (asked_replay c.args.words c.args.certificate.now c.args.text.now) c.args.files.now c.replayable_in_files.new.files c.args.out.now c.end.new.out completed memory c.in-Err.ensures.read
+returns-in-Err-clause-counts g c =
+    let task = replay_task c.args.words.image.now c.args.words.script.now c.args.words.frames c.args.words.n c.args.certificate.now c.args.text.now in
+    λ completed memory.
+    counts_read g.F.Files g.S.Sink task c.args.files.now c.replayable_in_files.new.files c.args.out.now c.end.new.out completed memory c.in-Err.ensures.read
 
 pub returns-in-Ok-clause-counts : goal.returns-in-Ok-clause-counts
-returns-in-Ok-clause-counts g c = λ completed memory.
-    counts_read g.F.Files g.S.Sink (asked_replay c.args.words c.args.certificate.now c.args.text.now) c.args.files.now c.replayable_in_files.new.files c.args.out.now c.judge.new.out completed memory c.in-Ok.ensures.read
+returns-in-Ok-clause-counts g c =
+    let task = replay_task c.args.words.image.now c.args.words.script.now c.args.words.frames c.args.words.n c.args.certificate.now c.args.text.now in
+    λ completed memory.
+    counts_read g.F.Files g.S.Sink task c.args.files.now c.replayable_in_files.new.files c.args.out.now c.judge.new.out completed memory c.in-Ok.ensures.read
 
 pub returns-in-Err-clause-ends : goal.returns-in-Err-clause-ends
 returns-in-Err-clause-ends g c =

@@ -4,8 +4,7 @@ use Rattle.wedge_core.specs.Counts.{Counts, counts_of}
 use Rattle.pv_tasks.specs.Outside.{outside}
 use Rattle.pv_tasks.specs.Beside.{beside}
 use Rattle.pv_save.specs.Saving.{SavesBoot, setting_on}
-use Rattle.pv_save.specs.Asked.{asked_save}
-use Rattle.pv_save.specs.Resting.{LeavesState}
+use Rattle.pv_save.specs.Resting.{LeavesState, save_task}
 use Rattle.pv_tasks.proofs.Deliveries.{halts, counts_host, counts_behind, some_is_none, not_ended}
 use Rattle.pv_tasks.proofs.RunMeanings.{no_run}
 use Rattle.pv_save.proofs.RestMeanings.{starts_kept, left_kept, started_means}
@@ -16,15 +15,17 @@ use Rattle.pv_tasks.proofs.Works.{WithFrames}
 
 pub returns-in-Err-clause-meaning : goal.returns-in-Err-clause-meaning
 returns-in-Err-clause-meaning g c =
+    let task = save_task c.args.mode c.args.words.image.now c.args.words.script.now c.args.words.frames c.args.words.n c.args.file.now in
     let words = c.args.words in
     let held = g.F.Files.held c.args.files.now in
-    halts _ _ (asked_save c.args.mode words c.args.file.now) _ c.end.result c.in-Err.halt
+    halts _ _ task _ c.end.result c.in-Err.halt
     (λ line none. no_run (WithFrames (SavesBoot c.args.mode words.frames words.n c.args.file.now) words.frames) held words.image.now words.script.now line none)
     (λ finds. finds) c.in-Err.ensures.read.held
     refl c.in-Err.ensures.halted c.end.ensures
 
 pub returns-in-Ok-clause-meaning : goal.returns-in-Ok-clause-meaning
 returns-in-Ok-clause-meaning g c =
+    let task = save_task c.args.mode c.args.words.image.now c.args.words.script.now c.args.words.frames c.args.words.n c.args.file.now in
     let words = c.args.words in
     let on = c.args.mode in
     let found = c.in-Ok.found in
@@ -32,7 +33,7 @@ returns-in-Ok-clause-meaning g c =
     let between = c.runnable_in_files.new.files in
     let host2 = c.rest_found-rested.new.host in
     let o = outside g.F.Files g.S.Sink g.H.Host (c.args.files.now, c.leave.new.files) (c.args.out.now, c.leave.new.out) (c.args.host.now, host2) in
-    started_means (asked_save on words c.args.file.now) o on (setting_on on found.image found.script.list words.frames) words.n c.args.file.now
+    started_means task o on (setting_on on found.image found.script.list words.frames) words.n c.args.file.now
     (g.S.Sink.taken c.rest_found-rested.new.out) (g.S.Sink.faults c.rest_found-rested.new.out) (g.F.Files.held between) (g.F.Files.sure between) (g.F.Files.load_faults between) (g.F.Files.store_faults between)
     (counts_of g.H.Host host2) c.rest_found-rested.result c.leave.result
     (λ fits. saves_boot on words.image.now words.script.now words.frames words.n c.args.file.now o found.image found.script.list c.in-Ok.ensures.image c.in-Ok.ensures.script
@@ -42,13 +43,13 @@ returns-in-Ok-clause-meaning g c =
 
 pub returns-in-Err-clause-counts : goal.returns-in-Err-clause-counts
 returns-in-Err-clause-counts g c =
-    let words = c.args.words in
-    counts_host g.F.Files g.S.Sink g.H.Host (asked_save c.args.mode words c.args.file.now) c.args.files.now c.runnable_in_files.new.files c.args.out.now c.end.new.out c.args.host.now c.args.host.now c.in-Err.ensures.read
+    let task = save_task c.args.mode c.args.words.image.now c.args.words.script.now c.args.words.frames c.args.words.n c.args.file.now in
+    counts_host g.F.Files g.S.Sink g.H.Host task c.args.files.now c.runnable_in_files.new.files c.args.out.now c.end.new.out c.args.host.now c.args.host.now c.in-Err.ensures.read
 
 pub returns-in-Ok-clause-counts : goal.returns-in-Ok-clause-counts
 returns-in-Ok-clause-counts g c =
-    let words = c.args.words in
-    counts_behind g.F.Files g.S.Sink g.H.Host (asked_save c.args.mode words c.args.file.now) c.args.files.now c.runnable_in_files.new.files c.leave.new.files c.args.out.now c.leave.new.out c.args.host.now c.rest_found-rested.new.host
+    let task = save_task c.args.mode c.args.words.image.now c.args.words.script.now c.args.words.frames c.args.words.n c.args.file.now in
+    counts_behind g.F.Files g.S.Sink g.H.Host task c.args.files.now c.runnable_in_files.new.files c.leave.new.files c.args.out.now c.leave.new.out c.args.host.now c.rest_found-rested.new.host
     (some_is_none c.args.file.now) c.in-Ok.ensures.read c.leave.ensures.stored
 
 pub returns-in-Err-clause-leaves : goal.returns-in-Err-clause-leaves

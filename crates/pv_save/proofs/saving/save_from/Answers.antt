@@ -6,8 +6,7 @@ use Rattle.checkpoint.specs.Fits.{fits_of}
 use Rattle.pv_tasks.specs.Outside.{outside}
 use Rattle.pv_tasks.specs.Beside.{beside}
 use Rattle.pv_save.specs.Saving.{SavesOn, setting_on, frames_of}
-use Rattle.pv_save.specs.Asked.{asked_save_from}
-use Rattle.pv_save.specs.Resting.{LeavesState}
+use Rattle.pv_save.specs.Resting.{LeavesState, save_from_task}
 use Rattle.pv_tasks.proofs.Deliveries.{halts, counts_host, counts_behind, some_is_none, not_ended}
 use Rattle.pv_save.proofs.RestMeanings.{rests_kept, left_kept, rested_means}
 use Rattle.pv_save.proofs.ContinueMeanings.{no_rest}
@@ -17,16 +16,18 @@ use Rattle.pv_save.proofs.saving.save_from.Goals as goal
 
 pub returns-in-Err-clause-meaning : goal.returns-in-Err-clause-meaning
 returns-in-Err-clause-meaning g c =
+    let task = save_from_task c.args.mode c.args.words.image.now c.args.words.script.now c.args.words.file.now c.args.words.n c.args.new.now in
     let words = c.args.words in
     let on = c.args.mode in
     let held = g.F.Files.held c.args.files.now in
-    halts _ _ (asked_save_from on words c.args.new.now) _ c.end.result c.in-Err.halt
+    halts _ _ task _ c.end.result c.in-Err.halt
     (λ line none. no_rest (SavesOn on words.n c.args.new.now) on c.is_wedge-wedge.result words.n held words.image.now words.script.now words.file.now line c.is_wedge-wedge.ensures none)
     (λ finds. finds) c.in-Err.ensures.read.held
     refl c.in-Err.ensures.halted c.end.ensures
 
 pub returns-in-Ok-clause-meaning : goal.returns-in-Ok-clause-meaning
 returns-in-Ok-clause-meaning g c =
+    let task = save_from_task c.args.mode c.args.words.image.now c.args.words.script.now c.args.words.file.now c.args.words.n c.args.new.now in
     let words = c.args.words in
     let on = c.args.mode in
     let found = c.in-Ok.found in
@@ -35,7 +36,7 @@ returns-in-Ok-clause-meaning g c =
     let host2 = c.rest_again-rested.new.host in
     let o = outside g.F.Files g.S.Sink g.H.Host (c.args.files.now, c.leave.new.files) (c.args.out.now, c.leave.new.out) (c.args.host.now, host2) in
     let fit = subst (λ (b : Bool). fits_of found.state found.image b words.n ≡ Ok tt) c.is_wedge-wedge.ensures c.in-Ok.ensures.fits in
-    rested_means (asked_save_from on words c.args.new.now) o on (setting_on on found.image found.script.list (frames_of found.state)) words.n (rested_from found.state) c.args.new.now
+    rested_means task o on (setting_on on found.image found.script.list (frames_of found.state)) words.n (rested_from found.state) c.args.new.now
     (g.S.Sink.taken c.rest_again-rested.new.out) (g.S.Sink.faults c.rest_again-rested.new.out) (g.F.Files.held between) (g.F.Files.sure between) (g.F.Files.load_faults between) (g.F.Files.store_faults between)
     (counts_of g.H.Host host2) c.rest_again-rested.result c.leave.result
     (saves_state on words.image.now words.script.now words.file.now words.n c.args.new.now o found.image found.script.list found.state c.in-Ok.ensures.image c.in-Ok.ensures.script c.in-Ok.ensures.state fit)
@@ -43,13 +44,13 @@ returns-in-Ok-clause-meaning g c =
 
 pub returns-in-Err-clause-counts : goal.returns-in-Err-clause-counts
 returns-in-Err-clause-counts g c =
-    let words = c.args.words in
-    counts_host g.F.Files g.S.Sink g.H.Host (asked_save_from c.args.mode words c.args.new.now) c.args.files.now c.resumable_in_files.new.files c.args.out.now c.end.new.out c.args.host.now c.args.host.now c.in-Err.ensures.read
+    let task = save_from_task c.args.mode c.args.words.image.now c.args.words.script.now c.args.words.file.now c.args.words.n c.args.new.now in
+    counts_host g.F.Files g.S.Sink g.H.Host task c.args.files.now c.resumable_in_files.new.files c.args.out.now c.end.new.out c.args.host.now c.args.host.now c.in-Err.ensures.read
 
 pub returns-in-Ok-clause-counts : goal.returns-in-Ok-clause-counts
 returns-in-Ok-clause-counts g c =
-    let words = c.args.words in
-    counts_behind g.F.Files g.S.Sink g.H.Host (asked_save_from c.args.mode words c.args.new.now) c.args.files.now c.resumable_in_files.new.files c.leave.new.files c.args.out.now c.leave.new.out c.args.host.now c.rest_again-rested.new.host
+    let task = save_from_task c.args.mode c.args.words.image.now c.args.words.script.now c.args.words.file.now c.args.words.n c.args.new.now in
+    counts_behind g.F.Files g.S.Sink g.H.Host task c.args.files.now c.resumable_in_files.new.files c.leave.new.files c.args.out.now c.leave.new.out c.args.host.now c.rest_again-rested.new.host
     (some_is_none c.args.new.now) c.in-Ok.ensures.read c.leave.ensures.stored
 
 pub returns-in-Err-clause-leaves : goal.returns-in-Err-clause-leaves

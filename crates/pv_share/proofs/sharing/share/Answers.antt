@@ -4,11 +4,11 @@ use Rattle.std.proofs.lemmas.List.{length-map}
 use Rattle.pv_share.specs.Unshared.{FindsShared}
 use Rattle.pv_build.proofs.Readings.{read_for}
 use Rattle.pv_tasks.specs.Outside.{outside}
-use Rattle.pv_share.specs.Asked.{asked_share}
 use Rattle.pv_words.specs.Words.{names_in_pairs, makes_pairs}
 use Rattle.pv_tasks.proofs.Deliveries.{halts, counts_host}
 use Rattle.pv_share.proofs.ShareMeanings.{none_shared, share_means, share_puts, pairs_few, kernels_few}
 use Rattle.pv_tasks.proofs.Faults.{ends_halted, ends_same}
+use Rattle.pv_share.specs.Sharing.{share_task}
 use Rattle.pv_share.proofs.sharing.share.Goals as goal
 
 pub shared_in_files-requires : goal.shared_in_files-requires
@@ -22,9 +22,10 @@ run_shared-ran-requires-clause-some g c =
 
 pub returns-in-Err-clause-meaning : goal.returns-in-Err-clause-meaning
 returns-in-Err-clause-meaning g c =
+    let task = share_task c.args.words.schedule.now c.args.words.frames (names_in_pairs (map string_bytes c.args.words.kernels.now)) in
     let words = c.args.words in
     let held = g.F.Files.held c.args.files.now in
-    halts _ _ (asked_share words) _ c.end.result c.in-Err.halt
+    halts _ _ task _ c.end.result c.in-Err.halt
     (λ line none. none_shared held words.schedule.now words.frames (names_in_pairs (map string_bytes words.kernels.now)) line none)
     (λ found. found) c.in-Err.ensures.read.held
     refl c.in-Err.ensures.halted c.end.ensures
@@ -38,17 +39,19 @@ returns-in-Ok-clause-meaning g c =
 
 pub returns-in-Err-clause-counts : goal.returns-in-Err-clause-counts
 returns-in-Err-clause-counts g c =
+    let task = share_task c.args.words.schedule.now c.args.words.frames (names_in_pairs (map string_bytes c.args.words.kernels.now)) in
     let words = c.args.words in
     let held = g.F.Files.held c.args.files.now in
-    counts_host g.F.Files g.S.Sink g.H.Host (asked_share words) c.args.files.now c.shared_in_files.new.files c.args.out.now c.end.new.out c.args.host.now c.args.host.now
-    (read_for g.F.Files ((asked_share words).finds held) (FindsShared held words.schedule.now (names_in_pairs (map string_bytes words.kernels.now))) c.args.files.now c.shared_in_files.new.files c.in-Err.ensures.read (λ found. found))
+    counts_host g.F.Files g.S.Sink g.H.Host task c.args.files.now c.shared_in_files.new.files c.args.out.now c.end.new.out c.args.host.now c.args.host.now
+    (read_for g.F.Files (task.finds held) (FindsShared held words.schedule.now (names_in_pairs (map string_bytes words.kernels.now))) c.args.files.now c.shared_in_files.new.files c.in-Err.ensures.read (λ found. found))
 
 pub returns-in-Ok-clause-counts : goal.returns-in-Ok-clause-counts
 returns-in-Ok-clause-counts g c =
+    let task = share_task c.args.words.schedule.now c.args.words.frames (names_in_pairs (map string_bytes c.args.words.kernels.now)) in
     let words = c.args.words in
     let held = g.F.Files.held c.args.files.now in
-    counts_host g.F.Files g.S.Sink g.H.Host (asked_share words) c.args.files.now c.shared_in_files.new.files c.args.out.now c.tell_shared.new.out c.args.host.now c.run_shared-ran.new.host
-    (read_for g.F.Files ((asked_share words).finds held) (FindsShared held words.schedule.now (names_in_pairs (map string_bytes words.kernels.now))) c.args.files.now c.shared_in_files.new.files c.in-Ok.ensures.read (λ found. found))
+    counts_host g.F.Files g.S.Sink g.H.Host task c.args.files.now c.shared_in_files.new.files c.args.out.now c.tell_shared.new.out c.args.host.now c.run_shared-ran.new.host
+    (read_for g.F.Files (task.finds held) (FindsShared held words.schedule.now (names_in_pairs (map string_bytes words.kernels.now))) c.args.files.now c.shared_in_files.new.files c.in-Ok.ensures.read (λ found. found))
 
 pub returns-in-Err-clause-ends : goal.returns-in-Err-clause-ends
 returns-in-Err-clause-ends g c =
