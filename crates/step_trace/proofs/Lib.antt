@@ -1,0 +1,4 @@
+pub mod Quiet
+pub mod Going
+pub mod Ends
+pub mod Found
