@@ -1,5 +1,5 @@
 -- The words of a form as a form.
-use Rattle.std.specs.Prelude.{ℕ, ◌≤◌, ◌^◌, List, slice_index}
+use Rattle.std.specs.Prelude.{ℕ, ◌≤◌, ◌<◌, ◌^◌, List, length, slice_index}
 use Rattle.look_words.specs.Words as asked
 use Rattle.look_words.specs.Words.{RunAsked, Look}
 use Rattle.look_words.specs.declared.words.LookedRun.{LookedRun}
@@ -34,8 +34,9 @@ look_view (words.InFile state of) = asked.InFile state.now (aspect_view of)
 abbrev pub IsRun : LookedRun → Type 0
 IsRun r = (2048 ≤ r.frames) × (r.frames ≤ 16384)
 
+-- at least one
 abbrev pub AreSteps : List ℕ → Type 0
-AreSteps steps = (i : ℕ) → slice_index steps i ≤ 2 ^ 40
+AreSteps steps = (0 < length steps) × ((i : ℕ) → slice_index steps i ≤ 2 ^ 40)
 
 abbrev pub IsAspect : Aspect → Type 0
 IsAspect aspect.Whole = Unit {0}

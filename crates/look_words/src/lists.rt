@@ -1,6 +1,6 @@
 //! Several numbers in words.
 
-ghost use Rattle.std.specs.Prelude.{◌≡◌, ◌≤◌, ◌^◌, length, map, string_bytes, option_map, IfSome};
+ghost use Rattle.std.specs.Prelude.{◌≡◌, ◌≤◌, ◌<◌, ◌^◌, length, map, string_bytes, option_map, IfSome};
 ghost use Rattle.look_words.specs.Numbers.{rising_from, all_addresses, steps_said, addresses_said, is_count};
 ghost use Rattle.look_words.specs.View.{AreSteps};
 
@@ -16,7 +16,8 @@ fn is_count(words: &[String]) -> bool
 }
 
 fn rising(words: &[String]) -> Option<Steps>
-    requires { length words.now ≤ 64 }
+    requires some { 0 < length words.now }
+    requires few { length words.now ≤ 64 }
     ensures value { option_map (λ v. v.items) result ≡ rising_from 0 (map string_bytes words.now) }
     ensures limits { IfSome result (λ v. AreSteps v.items) }
 {
