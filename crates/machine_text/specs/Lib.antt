@@ -1,0 +1,12 @@
+pub mod Below
+pub mod Numbers
+pub mod Registers
+pub mod Devices
+pub mod Mapped
+pub mod Views
+pub mod Entries
+pub mod Cached
+pub mod Dump
+pub mod Next
+pub mod Walks
+pub mod Shown
