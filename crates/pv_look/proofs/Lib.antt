@@ -5,3 +5,8 @@ pub mod Pieces
 pub mod Shortness
 pub mod Listed
 pub mod Looked
+pub mod Stepped
+pub mod Onwards
+pub mod Bounds
+pub mod OneRun
+pub mod Shows

@@ -5,7 +5,7 @@ use Rattle.pv_build.specs.declared.status.Status.{Status}
 use Rattle.pv_build.specs.declared.status.Status.TheVariants as status
 use Rattle.pv_tasks.specs.Outside.{Outside}
 use Rattle.pv_tasks.specs.Tasks.{Task, Means}
-use Rattle.pv_look.specs.Words.{Look}
+use Rattle.look_words.specs.Words.{Look}
 
 -- no form ends as words that are none
 pub not_words : (task : Task) (o : Counts → List ℕ → Outside) (st : Status) → ((completed : Counts) (memory : List ℕ) → Means task (o completed memory) st) → st ≡ status.Words → ⊥

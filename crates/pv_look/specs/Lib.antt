@@ -7,5 +7,9 @@ pub mod Room
 pub mod Labels
 pub mod Lines
 pub mod Listing
-pub mod Words
+pub mod Stepping
 pub mod Looking
+pub mod Moments
+pub mod Onward
+pub mod Before
+pub mod Files

@@ -6,14 +6,45 @@ ghost use Rattle.pv_tasks.specs.Beside.{beside};
 ghost use Rattle.pv_tasks.specs.Outside.{Untouched};
 ghost use Rattle.pv_tasks.specs.Faulting.{FaultsEnd};
 ghost use Rattle.pv_tasks.specs.Tasks.{Means, FaultCounts};
-ghost use Rattle.pv_look.specs.Words.{Look, form_of};
+ghost use Rattle.look_words.specs.Words.{Look, form_of};
+ghost use Rattle.look_words.specs.View.{look_view, IsWithin};
 ghost use Rattle.pv_look.specs.Looking.{task_of};
 
+use crate::before::before;
+use crate::file::of_file;
 use crate::listing::list;
-use crate::words::list_words;
+use crate::stepping::steps;
+use look_words::{LookWords, form};
 use pv_build::Status;
 use pv_io::{Files, Sink};
 use std::alloc::Global;
+
+/// Looks up what a form asks for.
+fn look_up<F: Files, S: Sink>(
+    alloc: Global,
+    asked: LookWords<'_>,
+    files: &mut F,
+    out: &mut S,
+) -> Status
+    requires within { IsWithin asked }
+    ensures meaning { (completed : HostCounts) (memory : List ℕ)
+        → Means (task_of (look_view asked.entry)) (beside F.Files S.Sink (files.old, files.new) (out.old, out.new) completed memory) result }
+    ensures counts { (completed : HostCounts) (memory : List ℕ)
+        → FaultCounts (task_of (look_view asked.entry)) (beside F.Files S.Sink (files.old, files.new) (out.old, out.new) completed memory) }
+    ensures ends { FaultsEnd F.Files S.Sink (files.old, files.new) (out.old, out.new) result }
+{
+    match asked {
+        LookWords::List(image) => list(alloc, image, files, out),
+        LookWords::Steps {
+            run,
+            from,
+            to,
+            only,
+        } => steps(alloc, run, from, to, only, files, out),
+        LookWords::Before { run, steps, aspect } => before(alloc, run, &steps, aspect, files, out),
+        LookWords::InFile { state, aspect } => of_file(alloc, state, aspect, files, out),
+    }
+}
 
 /// Looks up what the words ask for, and answers how it ended. It stores no file.
 pub fn look<F: Files, S: Sink>(
@@ -37,8 +68,8 @@ pub fn look<F: Files, S: Sink>(
     // A load that failed ends the work as a read fault, and a put that failed as a write fault.
     ensures ends { FaultsEnd F.Files S.Sink (files.old, files.new) (out.old, out.new) result }
 {
-    match list_words(words) {
+    match form(words) {
         None => Status::Words,
-        Some(image) => list(alloc, image, files, out),
+        Some(asked) => look_up(alloc, asked, files, out),
     }
 }
