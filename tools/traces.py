@@ -1,9 +1,12 @@
-"""Traces, schedules and scripts, as docs/FORMATS.md has them.
+"""Traces, schedules and scripts, as docs/FORMATS.md has them; and traces with the lines of `look steps` among their own.
 
-Not proved. It rests on docs/FORMATS.md (The trace, Several kernels, Scripts) and nothing else: it believes what the lines say.
+Not proved. It rests on docs/FORMATS.md (The trace, Several kernels, Scripts) and, by looked.py, on docs/LOOK.md: it believes what the
+lines say.
 """
 import re
 from collections import namedtuple
+
+from looked import STEP, step_of
 
 Item = namedtuple("Item", "step kind port value")
 Turn = namedtuple("Turn", "kernel start end own")   # steps of all, and the kernel's own step at the start
@@ -21,10 +24,10 @@ class Other(Exception):
 
 
 class Run:
-    """What one kernel did: its items, the step at its end, and the stop there or None."""
+    """What one kernel did: its items, the step at its end, and the stop there or None; its steps, where `look steps` printed it."""
 
     def __init__(self, name):
-        self.name, self.items, self.end, self.stop = name, [], None, None
+        self.name, self.items, self.steps, self.end, self.stop = name, [], [], None, None
 
 
 def lines_of(path):
@@ -41,12 +44,15 @@ def read_trace(path, name):
     for number, line in enumerate(lines_of(path), 1):
         if not line:
             continue
-        shared = re.match(r"([0-3]) (?=\d+ [a-z]|end )", line)
+        stepped = STEP.match(line.encode("latin-1"))
+        shared = not stepped and re.match(r"([0-3]) (?=\d+ [a-z]|end )", line)
         kernel = int(shared[1]) if shared else None
         run = runs.setdefault(kernel, Run(name if kernel is None else f"kernel {kernel}"))
         rest = line[2:] if shared else line
         if (end := END.fullmatch(rest)):
             run.end, run.stop = int(end[1]), end[2]
+        elif stepped and run.end is None:
+            run.steps.append(step_of(stepped))
         elif (item := ITEM.fullmatch(rest)) and run.end is None:
             run.items.append(Item(int(item[1]), item[2] or item[6], item[4] and int(item[4], 16), item[5] or item[7]))
         else:
@@ -58,6 +64,9 @@ def read_trace(path, name):
             raise Bad(f"{path}: it is cut: the last line, with the number of steps, is missing")
         if [it.step for it in run.items] != sorted(it.step for it in run.items) or run.items and run.items[-1].step >= max(run.end, 1):
             raise Bad(f"{path}: steps fall, or pass the end")
+        numbers = [it.number for it in run.steps]
+        if any(a >= b for a, b in zip(numbers, numbers[1:])) or numbers and numbers[-1] >= run.end + bool(run.stop):
+            raise Bad(f"{path}: steps of look fall, or pass the end")
     return runs
 
 
