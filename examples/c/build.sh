@@ -1,7 +1,7 @@
 #!/usr/bin/env bash
 # The whole way from a kernel in C to both traces. For each kernel NAME, which is a folder beside this script, or any other folder:
 #
-#     examples/c/build.sh [--stored | --keep] NAME ..
+#     examples/c/build.sh [--stored | --keep | --debug] NAME ..
 #     examples/c/build.sh --flags
 #
 # 1. gcc compiles NAME/*.c to assembler sources, with the flags below; lib/k.c and lib/console.c too where a kernel uses them.
@@ -15,13 +15,14 @@
 # what was printed is shown, and the files are kept.
 #
 # --stored takes the assembler sources that stand here, so that no compiler is needed; --keep puts those that are made here.
+# --debug has gcc and as tell lines, types and variables, and makes NAME.elf by tools/symbols, for gdb; the image is the same.
 # --flags prints the flags for gcc alone. The program is ../../pv, or $PV. Where $KEEP names a folder, the image, its objects, both
-# traces, and the program of level 3 with its names (NAME.user.elf) are left there.
+# traces, NAME.elf, and the program of level 3 with its names (NAME.user.elf) are left there.
 here=$(cd "$(dirname "${BASH_SOURCE[0]}")" && pwd) || exit 2
 pv=${PV:-$here/../../pv}
 mode=compile
-case ${1:-} in --stored | --keep | --flags) mode=${1#--}; shift ;; esac
-[ $# -gt 0 ] || [ "$mode" = flags ] || { echo "usage: build.sh [--stored | --keep] NAME .. or build.sh --flags" >&2; exit 2; }
+case ${1:-} in --stored | --keep | --flags | --debug) mode=${1#--}; shift ;; esac
+[ $# -gt 0 ] || [ "$mode" = flags ] || { echo "usage: build.sh [--stored | --keep | --debug] NAME .. or build.sh --flags" >&2; exit 2; }
 
 # i386 alone (no CMOV, BSWAP, CMPXCHG); no library, position independence, guards or tables of the stack; no MMX, SSE or x87; no
 # calls of memset that are made of loops; no arithmetic of 16 bits, and no aliases of functions. docs/C.md says what each cures.
@@ -29,6 +30,8 @@ flags="-m32 -march=i386 -mtune=pentiumpro -O2 -ffreestanding -fno-pic -fno-pie -
     -fno-asynchronous-unwind-tables -fcf-protection=none -mno-sse -mno-mmx -msoft-float -fno-tree-loop-distribute-patterns
     -fdisable-rtl-combine -fno-expensive-optimizations -fno-store-merging -fno-ipa-icf"
 [ "$mode" != flags ] || { sed 's/^ *//' <<<"$flags"; exit; }
+debug=
+[ "$mode" != debug ] || { debug=-g; flags="$flags -g"; }
 
 work=$(mktemp -d) || exit 2
 kept=
@@ -66,7 +69,7 @@ user_image() { # folder, assembler file
     for source in "$1/user_start.s" "$work/user.s"; do
         said=$("$pv" burn "$source" "$work/user.o") || { echo "burn $(basename "$source"): $said: $(sed -n "${said##* }p" "$source")" >&2; return 1; }
     done
-    as --32 "$1/user_start.s" -o "$work/user_start.o" && as --32 "$work/user.s" -o "$work/user.o" || return
+    as --32 $debug "$1/user_start.s" -o "$work/user_start.o" && as --32 "$work/user.s" -o "$work/user.o" || return
     ld -m elf_i386 -T "$here/lib/user.ld" "$work/user_start.o" "$work/user.o" -o "$work/user.elf" 2>"$work/ld" || { cat "$work/ld" >&2; return 1; }
     [ -z "${KEEP:-}" ] || cp "$work/user.elf" "$KEEP/$(basename "$1").user.elf"
     objcopy -O binary --set-section-flags .bss=alloc,load,contents "$work/user.elf" "$work/user.bin" || return
@@ -133,6 +136,7 @@ build() { # name, folder
     done
     said=$("$pv" link "$work/$1.img" "${objects[@]}") || { wrong "$1" "link: $said"; return 1; }
     "$pv" check "$work/$1.img" || { wrong "$1" "check refuses the image"; return 1; }
+    [ -z "$debug" ] || "$here/../../tools/symbols" "$work/$1.img" "${objects[@]}" --lines "${sources[@]}" || wrong "$1" "no names"
 }
 
 # Runs a kernel on one machine, and reports how it ended where it didn't reach its bound.
@@ -166,7 +170,7 @@ build_and_run() { # name or folder
     for machine in bare wedge; do
         run_on "$machine" "$name" "$folder" "$script" "$steps"
     done
-    [ -z "${KEEP:-}" ] || cp "$work/$name.img" "$work/$name.bare" "$work/$name.wedge" "${objects[@]}" "$KEEP"
+    [ -z "${KEEP:-}" ] || cp "$work/$name.img" "$work/$name.bare" "$work/$name.wedge" "${objects[@]}" ${debug:+"$work/$name.elf"} "$KEEP"
     cat "$work/$name.bare.console"
     cmp -s "$work/$name.bare.console" "$work/$name.wedge.console" || { wrong "$name" "run --wedge sent this:"; cat "$work/$name.wedge.console"; }
     cmp "$work/$name.bare" "$work/$name.wedge" || wrong "$name" "the traces differ"
