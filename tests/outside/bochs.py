@@ -5,6 +5,7 @@ processor. A step of Bochs that takes an interrupt also carries out the handler'
 """
 import os
 import re
+import select
 import struct
 import subprocess
 import tempfile
@@ -17,7 +18,8 @@ PROGRAM = "bochs-bin"
 PACKAGE = "bochs"
 IS_JOINED = True                # a step that takes an interrupt carries out the handler's first instruction too
 WRITES_ACCESSED = True
-SECONDS = 120
+SECONDS = 120                   # without a word, at most
+QUIET = 20                      # the same while it steps: it has halted for ever then, or shut down
 PROCESSOR = "pentium"
 RATE = 9545456                  # instructions a second: eight for each count of the timer, as a step here
 WINDOW = 1016                   # a directory index that no kernel uses: memory is read through it at the end
@@ -69,14 +71,12 @@ def configured(room, rom, pieces):
 
 
 class Debugger:
-    """Bochs with its debugger's lines in and its text out. It is killed after SECONDS."""
+    """Bochs with its debugger's lines in and its text out."""
 
     def __init__(self, configuration):
         self.process = subprocess.Popen(
             [PROGRAM, "-q", "-f", configuration], stdin=subprocess.PIPE, stdout=subprocess.PIPE, stderr=subprocess.DEVNULL
         )
-        self.watch = threading.Timer(SECONDS, self.process.kill)
-        self.watch.start()
 
     def feed(self, lines):
         try:
@@ -87,23 +87,27 @@ class Debugger:
 
     def answers(self, lines):
         """What it prints to these lines; whether it came to their end."""
-        feeder = threading.Thread(target=self.feed, args=(lines,))
-        feeder.start()
-        parts, last = [], b""
-        while MARK.encode() not in last:
-            part = self.process.stdout.read1(1 << 16)
+        threading.Thread(target=self.feed, args=(lines,), daemon=True).start()
+        out, parts, last, quiet = self.process.stdout.fileno(), [], b"", SECONDS
+        while MARK.encode() not in last and select.select([out], [], [], quiet)[0]:
+            part = os.read(out, 1 << 16)
             if not part:
                 break
             parts.append(part)
             last = last[-200:] + part
-        feeder.join(SECONDS)
+            if b"eflags" in part:
+                quiet = QUIET
         text = b"".join(parts).decode(errors="replace")
         return text, MARK in text
 
     def end(self):
-        self.watch.cancel()
         self.process.kill()
         self.process.wait()
+        self.process.stdout.close()
+        try:
+            self.process.stdin.close()
+        except OSError:
+            pass    # lines that it didn't read any more
 
 
 def states_in(text):
