@@ -9,4 +9,12 @@ pub mod RowLaw
 pub mod Law
 pub mod Branches
 pub mod Numerals
-pub mod Terminals
+pub mod Pieces
+pub mod FormPieces
+pub mod Readable
+pub mod WrittenForms
+pub mod StatementWords
+pub mod InstructionNames
+pub mod SpelledBounds
+pub mod SpelledOperands
+pub mod LinesRead

@@ -6,7 +6,7 @@ use Rattle.std.specs.Char.{is_ascii_hexdigit}
 use Rattle.std.proofs.lemmas.Bool.{ltb-true, and_parts, and_from}
 use Rattle.asm_lex.specs.Bytes.{is_letter, is_word}
 use Rattle.asm_argument.specs.Terminals.{digit_of, digits_value, number_value}
-use Rattle.run_trace.specs.Text.{hex_digit, hex2, hex4}
+use Rattle.run_trace.specs.Text.{hex_digit, hex2, hex4, hex8}
 use Rattle.ia32_text.specs.Numbers.{short2, short4, short8}
 
 each_16 : (P : ℕ → Type 0) → P 0 → P 1 → P 2 → P 3 → P 4 → P 5 → P 6 → P 7 → P 8 → P 9 → P 10 → P 11 → P 12 → P 13 → P 14 → P 15 → (n : ℕ) → n < 16 → P n
@@ -77,7 +77,7 @@ hex_word : (n : ℕ) → n < 16 → (is_word (hex_digit n) && is_ascii_hexdigit 
 unfolding is_word is_letter
 hex_word = each_16 (λ n. (is_word (hex_digit n) && is_ascii_hexdigit (hex_digit n)) ≡ true) refl refl refl refl refl refl refl refl refl refl refl refl refl refl refl refl
 
-abbrev is_hex_word : ℕ → Bool
+abbrev pub is_hex_word : ℕ → Bool
 is_hex_word b = is_word b && is_ascii_hexdigit b
 
 all_append : (xs ys : List ℕ) → list_all is_hex_word xs ≡ true → list_all is_hex_word ys ≡ true → list_all is_hex_word (xs ++ ys) ≡ true
@@ -104,3 +104,6 @@ words_by_8 false n e l = all_append (short4 (n / 65536)) (hex4 (n % 65536)) (wor
 
 pub number_words : (n : ℕ) → n < 2 ^ 32 → list_all is_hex_word (short8 n) ≡ true
 number_words n l = words_by_8 (nat_lt n 65536) n refl l
+
+pub hex_8_words : (n : ℕ) → n < 2 ^ 32 → list_all is_hex_word (hex8 n) ≡ true
+hex_8_words n l = all_append (hex4 (n / 65536)) (hex4 (n % 65536)) (words_4 (n / 65536) (omega arith)) (words_4 (n % 65536) (omega arith))

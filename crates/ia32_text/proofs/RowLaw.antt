@@ -3,7 +3,7 @@ use Rattle.std.proofs.Common.{◌≡◌, ℕ, ◌<◌, ◌^◌, Bool, true, fals
 use Rattle.std.specs.Prelude.{◌==◌, ◌&&◌, not, nat_lt}
 use Rattle.std.specs.List.{list_all, Contains}
 use Rattle.std.proofs.lemmas.List.Sums.{AllPass-from_list_all}
-use Rattle.std.proofs.lemmas.Bool.{eqb-true, and_parts}
+use Rattle.std.proofs.lemmas.Bool.{eqb-true, not-true, and_parts}
 use Rattle.ia32_types.specs.declared.insn.Insn.{Insn}
 use Rattle.ia32_types.specs.declared.insn.Op.{Op}
 use Rattle.ia32_types.specs.declared.insn.Op.TheVariants as op
@@ -239,10 +239,6 @@ tail_fits op.Call p l k = true
 tail_fits op.Jcc p l k = true
 tail_fits _ p l k = plain_plus p && not_far k && not (repeats l)
 
-not_is : (b : Bool) → not b ≡ true → b ≡ false
-not_is true e = absurd cc
-not_is false e = refl
-
 unselected_is : (k : Immediate) (imm sel : ℕ) → not_far k ≡ true → immediate_fits k imm sel ≡ true → sel ≡ 0
 unselected_is immediate.Nothing imm sel t e = eqb-true sel 0 (and_parts (imm == 0) (sel == 0) e).1
 unselected_is immediate.One imm sel t e = eqb-true sel 0 (and_parts (imm == 1) (sel == 0) e).1
@@ -266,11 +262,11 @@ zero_sel : (q : Plus) (k : Immediate) (p : Parts) → (plain_plus q && not_far k
 zero_sel q k p t e = let both = and_parts (plain_plus q) (not_far k) t in plain_sel q p both.0 ∙ unselected_is k p.imm p.sel both.1 e
 
 both_tail : (q : Plus) (l : Lead) (k : Immediate) (p : Parts) → (plain_plus q && not_far k && not (repeats l)) ≡ true → immediate_fits k p.imm p.sel ≡ true → (sel_of q p ≡ 0) × (repeats l ≡ false)
-both_tail q l k p t e = let both = and_parts (plain_plus q && not_far k) (not (repeats l)) t in (zero_sel q k p both.0 e, not_is (repeats l) both.1)
+both_tail q l k p t e = let both = and_parts (plain_plus q && not_far k) (not (repeats l)) t in (zero_sel q k p both.0 e, not-true (repeats l) both.1)
 
 tail_is : (o : Op) (q : Plus) (l : Lead) (k : Immediate) (p : Parts) → tail_fits o q l k ≡ true → immediate_fits k p.imm p.sel ≡ true → sel_of q p < 65536 → Tail o (sel_of q p) (repeats l)
-tail_is op.Setcc q l k p t e b = let both = and_parts (condition_plus q) (not (repeats l)) t in (condition_sel q p both.0, not_is (repeats l) both.1)
-tail_is op.FarJump q l k p t e b = (b, not_is (repeats l) t)
+tail_is op.Setcc q l k p t e b = let both = and_parts (condition_plus q) (not (repeats l)) t in (condition_sel q p both.0, not-true (repeats l) both.1)
+tail_is op.FarJump q l k p t e b = (b, not-true (repeats l) t)
 tail_is op.Movs q l k p t e b = zero_sel q k p t e
 tail_is op.Stos q l k p t e b = zero_sel q k p t e
 tail_is op.Lods q l k p t e b = zero_sel q k p t e

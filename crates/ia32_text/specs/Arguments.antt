@@ -1,5 +1,6 @@
 -- The arguments of a statement that operands are.
-use Rattle.std.specs.Prelude.{ℕ, ℤ, pos, ◌==◌, ◌&&◌, Bool, true, false, List, [], ◌∷◌, ◌++◌, codes, Option, Some, None, is_none, is_some, if◌then◌else◌}
+use Rattle.std.specs.Prelude.{ℕ, ℤ, pos, ◌==◌, ◌&&◌, Bool, true, false, List, [], ◌∷◌, ◌++◌, codes}
+use Rattle.std.specs.Prelude.{Option, Some, None, is_none, is_some, if◌then◌else◌}
 use Rattle.std.specs.Option.{option_map}
 use Rattle.ia32_types.specs.declared.register.Reg.{Reg}
 use Rattle.ia32_types.specs.declared.insn.Address.{Address}
@@ -63,7 +64,8 @@ abbrev pub form_with : Style → Written → Form
 form_with style (written.Register s n) = form.Register (register_name s n)
 form_with style (written.Segment g) = form.Register (segment_name g)
 form_with style (written.Control n) = form.Register (control_name n)
-form_with style (written.Memory a) = form.Memory (displacement_with style.named.disp a) (option_map reg_name a.base) (option_map reg_name a.index) a.scale
+form_with style (written.Memory a) =
+    form.Memory (displacement_with style.named.disp a) (option_map reg_name a.base) (option_map reg_name a.index) a.scale
 form_with style (written.Immediate n) = form.Immediate (immediate_with style.named.imm n)
 form_with style written.Port = form.Memory None (Some (codes "dx")) None 1
 form_with style (written.Label n) = form.Memory (Some (record { name = Some (target_name style.target n); number = pos 0 })) None None 1

@@ -7,3 +7,4 @@ pub mod Arguments
 pub mod Statement
 pub mod Text
 pub mod Again
+pub mod Listing

@@ -1,6 +1,6 @@
 //! Numbers in hexadecimal.
 
-ghost use Rattle.std.specs.Prelude.{◌≡◌, ◌+◌, ◌++◌, ◌≤◌, ◌<◌, ◌/◌, ◌%◌, ◌^◌, length, pos};
+ghost use Rattle.std.specs.Prelude.{◌≡◌, ◌+◌, ◌++◌, ◌∷◌, [], ◌≤◌, ◌<◌, ◌/◌, ◌%◌, ◌^◌, length, pos};
 ghost use Rattle.run_trace.specs.Text.{hex_digit, hex2, hex4, hex8};
 ghost use Rattle.ia32_text.specs.Numbers as spec;
 ghost use Rattle.ia32_text.specs.Arguments.{by_label};
@@ -8,12 +8,16 @@ ghost use Rattle.ia32_text.specs.Text.{constant_text, value_text};
 
 use crate::line::{Line, add};
 use ia32_types::TEXT_ADDRESS;
+use run_trace::{hex_digit, hex2, hex4, hex8};
 
-fn digit(n: u8) -> u8
-    requires { n < 16 }
-    ensures { result ≡ hex_digit n }
+/// The digit of a number below 16.
+pub fn one_digit(n: u8, line: &mut Line)
+    requires low { n < 16 }
+    requires room { length line.old.items ≤ 300 }
+    ensures text { line.new.items ≡ line.old.items ++ (hex_digit n ∷ []) }
+    ensures len { length line.new.items ≡ length line.old.items + 1 }
 {
-    if n < 10 { n + 48 } else { n + 87 }
+    line.push(hex_digit(n));
 }
 
 /// Both digits.
@@ -22,16 +26,16 @@ pub fn two_digits(n: u8, line: &mut Line)
     ensures text { line.new.items ≡ line.old.items ++ hex2 n }
     ensures len { length line.new.items ≡ length line.old.items + 2 }
 {
-    add(&[digit(n / 16), digit(n % 16)], line);
+    add(&hex2(n), line);
 }
 
-fn four_digits(n: u16, line: &mut Line)
+/// All four digits.
+pub fn four_digits(n: u16, line: &mut Line)
     requires { length line.old.items ≤ 295 }
     ensures text { line.new.items ≡ line.old.items ++ hex4 n }
     ensures len { length line.new.items ≡ length line.old.items + 4 }
 {
-    two_digits((n / 256) as u8, line);
-    two_digits((n % 256) as u8, line);
+    add(&hex4(n), line);
 }
 
 /// All eight digits.
@@ -40,8 +44,7 @@ pub fn eight_digits(n: u32, line: &mut Line)
     ensures text { line.new.items ≡ line.old.items ++ hex8 n }
     ensures len { length line.new.items ≡ length line.old.items + 8 }
 {
-    four_digits((n / 65536) as u16, line);
-    four_digits((n % 65536) as u16, line);
+    add(&hex8(n), line);
 }
 
 fn short_byte(n: u8, line: &mut Line)
@@ -50,7 +53,7 @@ fn short_byte(n: u8, line: &mut Line)
     ensures len { length line.new.items ≤ length line.old.items + 2 }
 {
     if n < 16 {
-        add(&[digit(n)], line);
+        one_digit(n, line);
     } else {
         two_digits(n, line);
     }

@@ -2,7 +2,8 @@
 
 ghost use Rattle.std.specs.Prelude.{◌≡◌, ◌+◌, ◌++◌, ◌≤◌, length, codes, Bool};
 ghost use Rattle.std.specs.Option.{option_map};
-ghost use Rattle.ia32_text.specs.Arguments.{mark_of, reg_name, displacement_of, displacement_with, immediate_with, form_with, arguments_with};
+ghost use Rattle.ia32_text.specs.Arguments.{mark_of, reg_name, displacement_of, displacement_with};
+ghost use Rattle.ia32_text.specs.Arguments.{immediate_with, form_with, arguments_with};
 ghost use Rattle.ia32_text.specs.Kinds.{ending_of};
 ghost use Rattle.ia32_text.specs.Statement as statement;
 ghost use Rattle.ia32_text.specs.Text as spec;

@@ -1,33 +1,11 @@
 //! Numbers and flags with their names.
 
-ghost use Rattle.std.specs.Prelude.{◌≡◌, ◌+◌, ◌*◌, ◌++◌, ◌∷◌, [], ◌≤◌, ◌<◌, length, codes, OnOk};
-ghost use Rattle.run_trace.specs.Text.{hex_digit, hex2, hex4, hex8};
+ghost use Rattle.std.specs.Prelude.{◌≡◌, ◌+◌, ◌*◌, ◌++◌, ◌≤◌, length, codes, OnOk};
 ghost use Rattle.machine_text.specs.Numbers as spec;
 
 use arrayvec::ArrayVec;
 use ia32_text::{Line, add, eight_digits, two_digits};
 use std::alloc::AllocError;
-
-/// One digit of a number below 16.
-pub fn one_digit(n: u8, line: &mut Line)
-    requires low { n < 16 }
-    requires room { length line.old.items ≤ 300 }
-    ensures text { line.new.items ≡ line.old.items ++ (hex_digit n ∷ []) }
-    ensures len { length line.new.items ≡ length line.old.items + 1 }
-{
-    let digit = if n < 10 { n + 48 } else { n + 87 };
-    line.push(digit);
-}
-
-/// All four digits.
-pub fn four_digits(n: u16, line: &mut Line)
-    requires { length line.old.items ≤ 290 }
-    ensures text { line.new.items ≡ line.old.items ++ hex4 n }
-    ensures len { length line.new.items ≡ length line.old.items + 4 }
-{
-    two_digits((n / 256) as u8, line);
-    two_digits((n % 256) as u8, line);
-}
 
 /// A byte after its name.
 pub fn add_field(name: &[u8], n: u8, line: &mut Line)

@@ -4,11 +4,11 @@ ghost use Rattle.std.specs.Prelude.{◌≡◌, ◌+◌, ◌++◌, ◌≤◌, ◌
 ghost use Rattle.machine_text.specs.Registers as spec;
 ghost use Rattle.machine_text.specs.Numbers.{long_line};
 
-use crate::numbers::{add_answer, add_long_line, add_where, one_digit};
+use crate::numbers::{add_answer, add_long_line, add_where};
 use crate::segments::{add_controls, add_segments, add_tables};
 use arrayvec::ArrayVec;
 use descriptors::Cpu;
-use ia32_text::{Line, add, eight_digits};
+use ia32_text::{Line, add, eight_digits, one_digit};
 use ia32_types::{Flags, Regs};
 use std::alloc::AllocError;
 

@@ -3,10 +3,10 @@
 ghost use Rattle.std.specs.Prelude.{◌≡◌, ◌+◌, ◌++◌, ◌≤◌, length, OnOk};
 ghost use Rattle.machine_text.specs.Registers as spec;
 
-use crate::numbers::{add_long_line, add_where, four_digits, one_digit};
+use crate::numbers::{add_long_line, add_where};
 use arrayvec::ArrayVec;
 use descriptors::{Cpu, Hidden, Table, Task};
-use ia32_text::{Line, add, eight_digits};
+use ia32_text::{Line, add, eight_digits, four_digits, one_digit};
 use std::alloc::AllocError;
 
 fn add_segment(name: &[u8], segment: Hidden, text: &mut Vec<u8>) -> Result<(), AllocError>

@@ -4,8 +4,9 @@ ghost use Rattle.std.specs.Prelude.{◌≡◌, ◌+◌, ◌++◌, ◌∷◌, [],
 ghost use Rattle.arrayvec.specs.ArrayVec.{array_vec_len};
 ghost use Rattle.pv_io.specs.Causes.{Rose};
 ghost use Rattle.pv_io.specs.Sink.{Appends, AppendsFront};
-ghost use Rattle.run_trace.specs.Text.{hex_digit, hex2, hex4, hex8, what_text, item_line, stop_name, end_text, end_line};
+ghost use Rattle.run_trace.specs.Text.{hex2, hex4, hex8, what_text, item_line, stop_name, end_text, end_line};
 
+use crate::digits::{hex2, hex4, hex8};
 use crate::items::{End, Ended, Item, What};
 use arrayvec::ArrayVec;
 use ia32_types::Stop;
@@ -66,34 +67,25 @@ fn number(n: u64, line: &mut Line)
     add(buffer.format(n).as_bytes(), line);
 }
 
-fn digit(n: u8) -> u8
-    requires { n < 16 }
-    ensures { result ≡ hex_digit n }
-{
-    if n < 10 { n + 48 } else { n + 87 }
-}
-
 fn byte(value: u8, line: &mut Line)
     requires { length line.old.items < 120 }
     ensures { line.new.items ≡ line.old.items ++ hex2 value }
 {
-    add(&[digit(value / 16), digit(value % 16)], line);
+    add(&hex2(value), line);
 }
 
 fn half(value: u16, line: &mut Line)
     requires { length line.old.items < 110 }
     ensures { line.new.items ≡ line.old.items ++ hex4 value }
 {
-    byte((value / 256) as u8, line);
-    byte((value % 256) as u8, line);
+    add(&hex4(value), line);
 }
 
 fn word(value: u32, line: &mut Line)
     requires { length line.old.items < 100 }
     ensures { line.new.items ≡ line.old.items ++ hex8 value }
 {
-    half((value / 65536) as u16, line);
-    half((value % 65536) as u16, line);
+    add(&hex8(value), line);
 }
 
 #[tactic(auto, unfolding(crate::specs::Text::what_text))]

@@ -1,22 +1,11 @@
 //! The entries of a line, each after two blanks.
 
-ghost use Rattle.std.specs.Prelude.{◌≡◌, ◌+◌, ◌++◌, ◌≤◌, ◌/◌, ◌%◌, length};
-ghost use Rattle.run_trace.specs.Text.{hex4, hex8};
+ghost use Rattle.std.specs.Prelude.{◌≡◌, ◌+◌, ◌++◌, ◌≤◌, length};
 ghost use Rattle.step_text.specs.Changed as spec;
 
 use crate::row::{Row, extend};
 use arrayvec::ArrayVec;
-use ia32_text::{Line, add, eight_digits, two_digits};
-
-/// All four digits.
-pub fn four_digits(n: u16, line: &mut Line)
-    requires { length line.old.items ≤ 290 }
-    ensures text { line.new.items ≡ line.old.items ++ hex4 n }
-    ensures len { length line.new.items ≡ length line.old.items + 4 }
-{
-    two_digits((n / 256) as u8, line);
-    two_digits((n % 256) as u8, line);
-}
+use ia32_text::{Line, add, eight_digits, four_digits};
 
 fn put_name(name: &[u8], line: &mut Line)
     requires room { length line.old.items ≤ 100 }

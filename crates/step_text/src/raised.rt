@@ -5,11 +5,10 @@ ghost use Rattle.run_trace.specs.Text.{hex8};
 ghost use Rattle.step_text.specs.Raised as spec;
 
 use crate::activity::Activity;
-use crate::entry::four_digits;
 use crate::row::{Row, extend};
 use arrayvec::ArrayVec;
 use descriptors::Cpu;
-use ia32_text::{Line, add, eight_digits, two_digits};
+use ia32_text::{Line, add, eight_digits, four_digits, two_digits};
 
 /// An exception: its vector, and the error code that was pushed, where it has one.
 #[derive(Clone, Copy)]
