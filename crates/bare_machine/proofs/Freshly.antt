@@ -115,7 +115,7 @@ nears_cleared s n old now set told tells h = record {
   text = h.text;
 }
 
-text_behind : (reports : List Report) (c : Course) → course_text (behind reports c) ≡ lines_of (trace_of reports) ++ (lines_of (trace_of c.reports) ++ end_line c.count c.end)
+pub text_behind : (reports : List Report) (c : Course) → course_text (behind reports c) ≡ lines_of (trace_of reports) ++ (lines_of (trace_of c.reports) ++ end_line c.count c.end)
 unfolding text_of
 text_behind reports c =
     ap (λ (l : List ℕ). l ++ end_line c.count c.end) (reported reports c.reports)

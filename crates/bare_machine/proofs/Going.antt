@@ -77,7 +77,7 @@ pub lines_on : (reports : List Report) (now : Report) (items : List Item) → no
 lines_on reports now items is =
     ap lines_of (trace_on reports now) ∙ (lines_join (trace_of reports) now.items ∙ ap (λ (l : List Item). lines_of (trace_of reports) ++ lines_of l) is)
 
-silent_join : (reports later : List Report) → trace_of later ≡ [] → trace_of (reports ++ later) ≡ trace_of reports
+pub silent_join : (reports later : List Report) → trace_of later ≡ [] → trace_of (reports ++ later) ≡ trace_of reports
 silent_join reports later silent = trace_join reports later ∙ (ap (λ (l : List Item). trace_of reports ++ l) silent ∙ append-nil (trace_of reports))
 
 -- the step's lines were put, or a front of them

@@ -10,3 +10,6 @@ pub mod Freshly
 pub mod FitBehind
 pub mod NextEvents
 pub mod OneStep
+pub mod Leaving
+pub mod Buffering
+pub mod KeptRuns

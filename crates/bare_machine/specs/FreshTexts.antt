@@ -36,11 +36,13 @@ CourseAs c old new before now (Err (fault.TooSmall small)) = ⊥
 CourseAs c old new before now (Err fault.Memory) = ⊥
 
 -- the same of a whole run of an image, which may not begin
-abbrev pub FreshAnswers : Image → Events → ℕ → ℕ → Option (List ℕ) → Option (List ℕ) → ℕ → ℕ → Result Ended RunFault → Type 0
-FreshAnswers image script frames n old new before now (Ok ended) =
-    (need image ≤ frames) × CourseAs (fresh_run image script frames n) old new before now (Ok ended)
-FreshAnswers image script frames n old new before now (Err fault.Write) =
-    (need image ≤ frames) × CourseAs (fresh_run image script frames n) old new before now (Err fault.Write)
-FreshAnswers image script frames n old new before now (Err (fault.TooSmall small)) =
+abbrev pub CourseAnswers : Image → ℕ → Course → Option (List ℕ) → Option (List ℕ) → ℕ → ℕ → Result Ended RunFault → Type 0
+CourseAnswers image frames c old new before now (Ok ended) = (need image ≤ frames) × CourseAs c old new before now (Ok ended)
+CourseAnswers image frames c old new before now (Err fault.Write) = (need image ≤ frames) × CourseAs c old new before now (Err fault.Write)
+CourseAnswers image frames c old new before now (Err (fault.TooSmall small)) =
     (frames < need image) × (small ≡ record { need = need image; have = frames }) × (new ≡ old) × (now ≡ before)
-FreshAnswers image script frames n old new before now (Err fault.Memory) = (new ≡ old) × (now ≡ before)
+CourseAnswers image frames c old new before now (Err fault.Memory) = (new ≡ old) × (now ≡ before)
+
+-- of the run before each step of which nothing is cached
+abbrev pub FreshAnswers : Image → Events → ℕ → ℕ → Option (List ℕ) → Option (List ℕ) → ℕ → ℕ → Result Ended RunFault → Type 0
+FreshAnswers image script frames n old new before now result = CourseAnswers image frames (fresh_run image script frames n) old new before now result

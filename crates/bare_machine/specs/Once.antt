@@ -1,5 +1,5 @@
 -- What one step by itself says.
-use Rattle.std.specs.Prelude.{◌≡◌, ℕ, ◌+◌, Bool, true, [], ◌∷◌, Result, Ok, Err}
+use Rattle.std.specs.Prelude.{◌≡◌, ◌+◌, Bool, true, [], ◌∷◌, Result, Ok, Err}
 use Rattle.descriptors.specs.declared.cpu.Cpu.{Cpu}
 use Rattle.paging.specs.Part.{IsPartOf}
 use Rattle.board.specs.declared.devices.Board.{Board}

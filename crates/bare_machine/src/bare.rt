@@ -8,6 +8,7 @@ ghost use Rattle.board.specs.ScriptForm.{is_script};
 ghost use Rattle.image_check.specs.Image.{Image};
 ghost use Rattle.pv_io.specs.Causes.{Rose};
 ghost use Rattle.machine_model.specs.Fit.{Fit};
+ghost use Rattle.bare_machine.specs.Buffered.{KeptSlice};
 ghost use Rattle.bare_machine.specs.Machine.{state_of, IsKept, GoesOn};
 ghost use Rattle.bare_machine.specs.Once.{OnceAs};
 ghost use Rattle.bare_machine.specs.Settings.{bare};
@@ -100,6 +101,9 @@ impl<C: Cache> Bare<C> {
         requires bound { self.old.step + k ≤ 2 ^ 40 }
         ensures slice { (image : Image) → SliceAs
             (bare image script.now.list self.old.frames) (C.is_exact self.old.kept.cache) (self.old.step + k)
+            (state_of C.entries self.old) (state_of C.entries self.new) (O.taken out.old) (O.taken out.new) result }
+        ensures steps { (image : Image) → KeptSlice C.keeping
+            (bare image script.now.list self.old.frames) (self.old.step + k)
             (state_of C.entries self.old) (state_of C.entries self.new) (O.taken out.old) (O.taken out.new) result }
         ensures one { k ≡ 1 → (image : Image) → OneStepAs (bare image script.now.list self.old.frames)
             (C.is_exact self.old.kept.cache) (state_of C.entries self.old) (state_of C.entries self.new) result }

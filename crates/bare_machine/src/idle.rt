@@ -8,6 +8,7 @@ ghost use Rattle.image_check.specs.Image.{Image};
 ghost use Rattle.machine_model.specs.Run.{Set};
 ghost use Rattle.machine_model.specs.Step.{interrupt_of};
 ghost use Rattle.paging.specs.Part.{IsPartOf};
+ghost use Rattle.bare_machine.specs.Buffered.{KeptRests};
 ghost use Rattle.bare_machine.specs.Machine.{state_of, IsKept, GoesOn, Rests};
 ghost use Rattle.bare_machine.specs.Settings.{bare};
 
@@ -27,6 +28,8 @@ pub fn rest<C: Cache>(machine: &mut BareMachine<C>, script: &Script, n: u64)
     requires bound { n ≤ 2 ^ 40 }
     ensures rests { (image : Image) (whole : Set) → IsPartOf (C.entries machine.old.kept.cache) whole
         → Rests (bare image script.now.list machine.old.frames) (state_of C.entries machine.old) whole (state_of C.entries machine.new) }
+    ensures kept { (image : Image) → KeptRests C.keeping (bare image script.now.list machine.old.frames)
+        (state_of C.entries machine.old) (state_of C.entries machine.new) }
     ensures goes_on { GoesOn C.entries C.is_exact machine.old machine.new }
     // Short of the bound it ends only where something reaches the board in the next step.
     ensures furthest { machine.old.cpu.halted ≡ true → machine.old.cpu.held ≡ false

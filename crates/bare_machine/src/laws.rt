@@ -1,6 +1,7 @@
 //! Laws of runs in parts, and of runs that begin each step with nothing cached.
 
 ghost use Rattle.bare_machine.specs.FreshLaws.{EachCourseIsARun};
+ghost use Rattle.bare_machine.specs.KeptLaws.{EachKeptCourseIsARun, EachBufferedRunIsARun};
 ghost use Rattle.bare_machine.specs.Parts.{BeginsHere, SliceGoesOn, ChangeGoesOn, LossGoesOn, PartsAreARun};
 
 /// Slices, between which a cache was changed, are one run, where what was left in it is loosened from what the last step
@@ -16,4 +17,11 @@ pub fn parts_join()
 /// The course of a run with nothing cached is a run, the set before each step of which is empty.
 pub fn each_course_is_a_run()
     ensures { EachCourseIsARun }
+{}
+
+/// The course of a run of which a cache keeps what each step has left is a run; so is the run with a TLB that is empty at
+/// the start.
+pub fn each_kept_course_is_a_run()
+    ensures courses { EachKeptCourseIsARun }
+    ensures buffered { EachBufferedRunIsARun }
 {}

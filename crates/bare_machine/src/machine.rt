@@ -5,12 +5,13 @@ ghost use Rattle.board.specs.Boards.{given};
 ghost use Rattle.board.specs.Scripts.{Events};
 ghost use Rattle.board.specs.ScriptForm.{is_script};
 ghost use Rattle.image_check.specs.Image.{Image};
-ghost use Rattle.step_mem.specs.Changes.{AreWithin, changed};
+ghost use Rattle.step_mem.specs.Changes.{AreToldIn, AreWithin, changed};
 ghost use Rattle.step_mem.specs.Sound.{space};
 ghost use Rattle.machine_model.specs.State.{State};
 ghost use Rattle.machine_model.specs.Step.{stepped};
 ghost use Rattle.machine_step.specs.Raised.{raised_of, raised_from};
 ghost use Rattle.machine_step.specs.Worked.{ComesTo, IsDropped, answer_of};
+ghost use Rattle.bare_machine.specs.Buffered.{KeptAs, kept_step};
 ghost use Rattle.bare_machine.specs.Machine.{state_of, own_step, StepAs, IsKept, GoesOn};
 ghost use Rattle.bare_machine.specs.Once.{taken_in};
 ghost use Rattle.bare_machine.specs.Settings.{bare};
@@ -61,6 +62,8 @@ pub fn step<C: Cache>(
     ensures step { (image : Image) → StepAs
         (own_step (bare image script.now.list machine.old.frames) (state_of C.entries machine.old))
         result machine.old.step (C.is_exact machine.old.kept.cache) (state_of C.entries machine.new) }
+    ensures kept { (image : Image) → KeptAs (kept_step C.keeping (bare image script.now.list machine.old.frames)
+        (state_of C.entries machine.old)) result machine.old.step (state_of C.entries machine.new) }
     ensures goes_on { OnOk result (GoesOn C.entries C.is_exact machine.old machine.new) }
     ensures frames { machine.new.frames ≡ machine.old.frames }
     ensures size { length machine.new.ram ≡ length machine.old.ram }
@@ -84,7 +87,13 @@ pub fn step<C: Cache>(
     );
     match result {
         Ok(()) => {
-            finish_step(machine, &worked.cpu, &state.changes, worked.dropped);
+            finish_step(
+                machine,
+                &worked.cpu,
+                &state.changes,
+                &state.visited,
+                worked.dropped,
+            );
             Ok(worked.seen)
         }
         Err(stop) => Err(stop),
@@ -106,6 +115,8 @@ fn tried<C: Cache>(
     ensures size { length ram.new ≡ length ram.old }
     ensures within { AreWithin frames (changed (C.entries kept.now.cache) state.new.changes) }
     ensures page { IfOk (answer_of result worked.new) (λ w. IsDropped w.dropped) }
+    ensures told { AreToldIn state.new.visited state.new.changes }
+    ensures few { length state.new.visited ≤ 64 }
     ensures memory { (space ⟦<Cached<C> as step_mem::Translations>⟧ kept.now ram.new state.new).ram ≡ ram.new }
     ensures comes { (image : Image) (script : Events) (b : State) → ComesTo
         (stepped (bare image script frames)

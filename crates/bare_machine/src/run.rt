@@ -1,11 +1,13 @@
 //! Whole runs of the bare machine.
 
-ghost use Rattle.std.specs.Prelude.{◌≡◌, ◌≤◌, ◌^◌, true, IfOk};
+ghost use Rattle.std.specs.Prelude.{◌≡◌, ◌-◌, ◌≤◌, ◌^◌, true, IfOk};
 ghost use Rattle.board.specs.ScriptForm.{is_script};
 ghost use Rattle.image_check.specs.Image.{Image};
 ghost use Rattle.bare_machine.specs.Machine.{state_of, IsKept};
 ghost use Rattle.bare_machine.specs.Settings.{bare};
 ghost use Rattle.bare_machine.specs.Answers.{RunAnswers, WholeAs};
+ghost use Rattle.bare_machine.specs.Buffered.{buffered_run, kept_course};
+ghost use Rattle.bare_machine.specs.FreshTexts.{CourseAnswers, CourseAs};
 ghost use Rattle.run_trace.specs.Pauses.{end_of};
 
 use crate::bare::Bare;
@@ -18,7 +20,8 @@ use run_trace::{Ended, end_of};
 use std::alloc::Global;
 use xlate_buffer::{Buffer, Cache};
 
-/// Runs an image for at most so many steps, and puts the text of its trace.
+/// Runs an image for at most so many steps, and puts the text of its trace: that of `buffered_run`, which is a function of
+/// image, script, frames and `n`.
 pub fn run_bare<O: Sink>(
     alloc: Global,
     image: &Checked,
@@ -31,6 +34,8 @@ pub fn run_bare<O: Sink>(
     requires script { is_script script.now.list ≡ true }
     requires bound { n ≤ 2 ^ 40 }
     ensures run { RunAnswers image.now script.now.list frames n
+        (O.taken out.old) (O.taken out.new) (O.faults out.old) (O.faults out.new) result }
+    ensures buffered { CourseAnswers image.now frames (buffered_run image.now script.now.list frames n)
         (O.taken out.old) (O.taken out.new) (O.faults out.old) (O.faults out.new) result }
     ensures fills { IfOk result (λ ended. ended.fills ≡ 0) }
 {
@@ -56,6 +61,9 @@ pub fn run_on<C: Cache, O: Sink>(
     requires bound { n ≤ 2 ^ 40 }
     ensures whole { (image : Image) → WholeAs
         (bare image script.now.list machine.old.frames) n (state_of C.entries machine.old)
+        (O.taken out.old) (O.taken out.new) (O.faults out.old) (O.faults out.new) result }
+    ensures course { (image : Image) → CourseAs
+        (kept_course C.keeping (bare image script.now.list machine.old.frames) (n - machine.old.step) (state_of C.entries machine.old))
         (O.taken out.old) (O.taken out.new) (O.faults out.old) (O.faults out.new) result }
     ensures fills { IfOk result (λ ended. ended.fills ≡ 0) }
 {

@@ -5,6 +5,7 @@ ghost use Rattle.board.specs.ScriptForm.{is_script};
 ghost use Rattle.image_check.specs.Image.{Image};
 ghost use Rattle.pv_io.specs.Causes.{Rose};
 ghost use Rattle.machine_model.specs.Fit.{Fit};
+ghost use Rattle.bare_machine.specs.Buffered.{KeptSlice};
 ghost use Rattle.bare_machine.specs.Machine.{state_of, IsKept, GoesOn};
 ghost use Rattle.bare_machine.specs.Settings.{bare};
 ghost use Rattle.bare_machine.specs.Slices.{SliceAs, OneStepAs};
@@ -33,6 +34,9 @@ pub fn take_steps<C: Cache, O: Sink>(
     requires bound { machine.old.step + k ≤ 2 ^ 40 }
     ensures slice { (image : Image) → SliceAs
         (bare image script.now.list machine.old.frames) (C.is_exact machine.old.kept.cache) (machine.old.step + k)
+        (state_of C.entries machine.old) (state_of C.entries machine.new) (O.taken out.old) (O.taken out.new) result }
+    ensures kept { (image : Image) → KeptSlice C.keeping
+        (bare image script.now.list machine.old.frames) (machine.old.step + k)
         (state_of C.entries machine.old) (state_of C.entries machine.new) (O.taken out.old) (O.taken out.new) result }
     ensures one { k ≡ 1 → (image : Image) → OneStepAs (bare image script.now.list machine.old.frames)
         (C.is_exact machine.old.kept.cache) (state_of C.entries machine.old) (state_of C.entries machine.new) result }
@@ -70,6 +74,9 @@ pub fn steps_to<C: Cache, O: Sink>(
     requires begun { machine.old.step ≤ bound }
     ensures slice { (image : Image) → SliceAs
         (bare image script.now.list machine.old.frames) (C.is_exact machine.old.kept.cache) bound
+        (state_of C.entries machine.old) (state_of C.entries machine.new) (O.taken out.old) (O.taken out.new) result }
+    ensures kept { (image : Image) → KeptSlice C.keeping
+        (bare image script.now.list machine.old.frames) bound
         (state_of C.entries machine.old) (state_of C.entries machine.new) (O.taken out.old) (O.taken out.new) result }
     ensures reached { IfReached result (machine.new.step ≡ bound) }
     ensures goes_on { IfReached result (GoesOn C.entries C.is_exact machine.old machine.new) }

@@ -3,4 +3,4 @@
 
 mod kept;
 
-pub use kept::{Cached, drop_all, drop_dir, drop_page, settle};
+pub use kept::{Cached, drop_all, drop_dir, drop_gone, drop_page, settle};

@@ -16,7 +16,11 @@ use Rattle.run_trace.specs.Text.{text_of}
 use Rattle.machine_model.specs.State.{wedge}
 use Rattle.machine_model.specs.Step.{Report}
 use Rattle.machine_model.specs.Run.{stopping, trace_of}
-use Rattle.bare_machine.specs.Answers.{RunAnswers}
+use Rattle.bare_machine.specs.Runs.{HasRun}
+use Rattle.bare_machine.specs.FreshRuns.{Course, course_text}
+use Rattle.bare_machine.specs.FreshTexts.{CourseAnswers}
+use Rattle.bare_machine.specs.Buffered.{buffered_run}
+use Rattle.bare_machine.proofs.KeptRuns.{each_buffered_run_runs}
 use Rattle.wedge_core.specs.Counts.{Counts}
 use Rattle.wedge_core.specs.Surroundings.{Around}
 use Rattle.wedge_core.proofs.AnsweredBy.{WedgeAnswers}
@@ -78,20 +82,41 @@ too_small ran image frames old new before now c c2 memory small st lt is none sa
 
 -- what the bare machine answered was reported
 ran_bare : (image : Image) (events : Events) (frames n : ℕ) (old mid new : Option (List ℕ)) (before middle now : ℕ) (r : Result Ended RunFault) (c : Counts) (memory : List ℕ) (st : Status)
-    → RunAnswers image events frames n old mid before middle r → ToldAs r mid new middle now st
+    → CourseAnswers image frames (buffered_run image events frames n) old mid before middle r → ToldAs r mid new middle now st
     → RanAs (RunsOn (RunsBare frames n image events) image frames) (around_of old new before now c c) memory st
 ran_bare image events frames n old mid new before middle now (Ok e) c memory st h told =
+    let course : Course = buffered_run image events frames n in
+    let end_is : e.end ≡ course.end = ap (λ (x : Ended). x.end) h.1.0 in
     inl (
-      ended e.end h.0,
-      Ran h.1.fits (record { text = h.0; count = e.steps; end = e.end; run = h.1; comes = refl }),
-      Whole told.0 (appends_on old mid new h.0 told.1 h.2) (told.2 ∙ h.3),
+      ended e.end (course_text course),
+      Ran h.0 (record {
+        text = course_text course;
+        count = course.count;
+        end = e.end;
+        run = subst (λ (x : End). HasRun image events frames n (course_text course) course.count x) (sym end_is) (each_buffered_run_runs image events frames n h.0);
+        text_is = refl;
+        count_is = refl;
+        end_is = end_is;
+        comes = refl;
+      }),
+      Whole told.0 (appends_on old mid new (course_text course) told.1 h.1.1) (told.2 ∙ h.1.2),
       λ end. refl,
     )
 ran_bare image events frames n old mid new before middle now (Err fault.Write) c memory st h told =
+    let course : Course = buffered_run image events frames n in
     inl (
-      ended h.2 h.0,
-      Ran h.3.fits (record { text = h.0; count = h.1; end = h.2; run = h.3; comes = refl }),
-      Cut told.0 (front_on old mid new h.0 told.1 h.4) (rose_on before middle now told.2 h.5),
+      ended course.end (course_text course),
+      Ran h.0 (record {
+        text = course_text course;
+        count = course.count;
+        end = course.end;
+        run = each_buffered_run_runs image events frames n h.0;
+        text_is = refl;
+        count_is = refl;
+        end_is = refl;
+        comes = refl;
+      }),
+      Cut told.0 (front_on old mid new (course_text course) told.1 h.1.0) (rose_on before middle now told.2 h.1.1),
       λ end. refl,
     )
 ran_bare image events frames n old mid new before middle now (Err (fault.TooSmall small)) c memory st h (inl said) =

@@ -9,6 +9,8 @@ use Rattle.machine_model.specs.State.{State, boot, wedge}
 use Rattle.machine_model.specs.Step.{Report}
 use Rattle.machine_model.specs.Run.{Set, Run, stopping}
 use Rattle.bare_machine.specs.Runs.{HasRun}
+use Rattle.bare_machine.specs.FreshRuns.{course_text}
+use Rattle.bare_machine.specs.Buffered.{buffered_run}
 use Rattle.pv_build.specs.Lines.{too_small_line}
 use Rattle.pv_build.specs.Images.{HasImage}
 use Rattle.pv_build.specs.Scripts.{HasScript, NoRun, FindsRun}
@@ -17,12 +19,15 @@ use Rattle.pv_words.specs.declared.mode.RunMode.TheVariants as mode
 use Rattle.pv_tasks.specs.Outcome.{Outcome, refused, ended, ended_on_host}
 use Rattle.pv_tasks.specs.Tasks.{Task, plain}
 
--- a run of the bare machine, with its text
+-- a run of the bare machine, with its text: the one with a TLB that is empty at the start
 pub record RunsBare (frames n : ℕ) (image : Image) (events : Events) (w : Outcome) : Type 0 where
   pub text : List ℕ
   pub count : ℕ
   pub end : End
   pub run : HasRun image events frames n text count end
+  pub text_is : text ≡ course_text (buffered_run image events frames n)
+  pub count_is : count ≡ (buffered_run image events frames n).count
+  pub end_is : end ≡ (buffered_run image events frames n).end
   pub comes : w ≡ ended end text
 
 -- a run under the monitor's rules, whose direct instructions are the host's

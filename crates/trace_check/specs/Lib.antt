@@ -17,3 +17,4 @@ pub mod Runs
 pub mod RunLaws
 pub mod Proved
 pub mod Noted
+pub mod Again

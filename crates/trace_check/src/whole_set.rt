@@ -1,8 +1,9 @@
 //! A set of translations that loses none by itself.
 
 ghost use Rattle.std.specs.Prelude.{◌≡◌, ◌≢◌, ℕ, ◌/◌, ◌<◌, ◌≤◌, ◌+◌, ◌*◌, ◌^◌, true, false, length, slice_index, slice_index_or, Some, None, IfOk, IfSome};
-ghost use Rattle.std.specs.FinMap.{empty, get};
+ghost use Rattle.std.specs.FinMap.{empty, get, insert};
 ghost use Rattle.trace_check.specs.Slots.{word_of, entry_in};
+ghost use Rattle.trace_check.specs.Again.{put_again};
 
 use ia32_types::PAGES;
 use paging::Entry;
@@ -109,6 +110,10 @@ impl Cache for WholeSet {
     ghost entries = { λ set. set };
 
     ghost is_exact = { λ _. true };
+
+    ghost keeping = { λ set entry. insert set entry.page entry };
+
+    ghost again = { put_again };
 
     fn find(&self, page: u32) -> Option<Entry> {
         if page < PAGES {

@@ -5,6 +5,8 @@ ghost use Rattle.std.specs.FinMap.{FinMap, get};
 ghost use Rattle.std.specs.Ordering.{nat_cmp};
 ghost use Rattle.paging.specs.declared.entry.Entry.{Entry};
 ghost use Rattle.xlate_buffer.specs.Caches.{IsSameOrGone};
+ghost use Rattle.xlate_buffer.specs.Calls.{made, Keep};
+ghost use Rattle.xlate_buffer.specs.Again.{kept_again};
 
 use crate::Buffer;
 use paging::Entry;
@@ -17,6 +19,9 @@ pub trait Cache: Drop {
     /// It loses none by itself. It is the same at any time.
     ghost is_exact: { Self → Bool };
 
+    /// What a cache of this type makes of its translations where it keeps an entry.
+    ghost keeping: { FinMap nat_cmp Entry → Entry → FinMap nat_cmp Entry };
+
     /// The entry of the page; None exactly where it is not kept.
     fn find(&self, page: u32) -> Option<Entry>
         ensures { result ≡ get (entries self.now) page };
@@ -28,6 +33,7 @@ pub trait Cache: Drop {
         ensures others { (page : ℕ) → page ≢ entry.page → IsSameOrGone (get (entries self.old) page) (get (entries self.new) page) }
         ensures exact { is_exact self.old ≡ true → (page : ℕ) → page ≢ entry.page →
             get (entries self.new) page ≡ get (entries self.old) page }
+        ensures whole { entries self.new ≡ keeping (entries self.old) entry }
         ensures same { is_exact self.new ≡ is_exact self.old };
 
     /// The page is kept no longer.
@@ -50,12 +56,19 @@ pub trait Cache: Drop {
     /// It loses no entry by itself.
     fn exact(&self) -> bool
         ensures { result ≡ is_exact self.now };
+
+    /// To keep an entry again at once changes nothing.
+    ghost again: { (set : FinMap nat_cmp Entry) (entry : Entry) → keeping (keeping set entry) entry ≡ keeping set entry };
 }
 
 impl Cache for Buffer {
     ghost entries = { λ buffer. buffer };
 
     ghost is_exact = { λ _. false };
+
+    ghost keeping = { λ set entry. made (Keep entry) set };
+
+    ghost again = { kept_again };
 
     fn find(&self, page: u32) -> Option<Entry> {
         self.find(page)

@@ -22,3 +22,9 @@ returns-clause-size g c =
 
 pub returns-clause-raised : goal.returns-clause-raised
 returns-clause-raised g c = λ image script b. c.step_again.ensures.raised (bare image script c.args.frames) b (record { has = refl; over = tt })
+
+pub returns-clause-told : goal.returns-clause-told
+returns-clause-told g c = c.step_again.ensures.sound.told
+
+pub returns-clause-few : goal.returns-clause-few
+returns-clause-few g c = omega (arith, c.step_again.ensures.sound.visits, c.step_again.ensures.sound.few)

@@ -10,7 +10,7 @@ pub returns-in-Wedge-clause-host : goal.returns-in-Wedge-clause-host
 returns-in-Wedge-clause-host g c = λ bare. absurd (let f : mode.Wedge ≡ mode.Bare = sym c.in-Wedge.is ∙ bare in cc)
 
 pub returns-in-Bare-clause-answers : goal.returns-in-Bare-clause-answers
-returns-in-Bare-clause-answers g c = rw c.in-Bare.is (c.run_bare.ensures.run, refl)
+returns-in-Bare-clause-answers g c = rw c.in-Bare.is (c.run_bare.ensures.buffered, refl)
 
 pub returns-in-Wedge-clause-answers : goal.returns-in-Wedge-clause-answers
 returns-in-Wedge-clause-answers g c = rw c.in-Wedge.is c.patched_run.ensures

@@ -1,5 +1,7 @@
-use Rattle.std.proofs.Common.{◌<◌, length, ap, ◌∙◌, inl, arith}
-use Rattle.std.specs.FinMap.{get}
+use Rattle.std.proofs.Common.{◌<◌, length, Some, ap, ◌∙◌, inl, arith}
+use Rattle.std.specs.FinMap.{get, insert}
+use Rattle.bare_mem.proofs.Parts.{all_turned}
+use Rattle.trace_check.specs.Slots.{entries_of}
 use Rattle.trace_check.proofs.Holding.{get_put, get_put_other, whole_put}
 use Rattle.trace_check.proofs.whole_set.WholeSetCache.keep.Goals as goal
 
@@ -16,3 +18,13 @@ returns-clause-others c = λ page n. inl (get_put_other c.self.inside.words.item
 
 pub returns-clause-exact : goal.returns-clause-exact
 returns-clause-exact c = λ _ page n. get_put_other c.self.inside.words.items c.args.entry.page c.word_of.result page n ∙ ap (λ m. get m page) c.self.view_is
+
+pub returns-clause-whole : goal.returns-clause-whole
+returns-clause-whole c =
+    let words = c.self.inside.words.items in
+    let entry = c.args.entry in
+    let lt : entry.page < length words = omega (arith, c.self.invariant.pages, c.requires.page) in
+    all_turned (entries_of words) _ entry.page (Some entry)
+    (rw c.word_of.ensures.word (get_put words entry lt))
+    (λ page n. get_put_other words entry.page c.word_of.result page n)
+    ∙ ap (λ m. insert m entry.page entry) c.self.view_is
