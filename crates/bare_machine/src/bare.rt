@@ -9,6 +9,7 @@ ghost use Rattle.image_check.specs.Image.{Image};
 ghost use Rattle.pv_io.specs.Causes.{Rose};
 ghost use Rattle.machine_model.specs.Fit.{Fit};
 ghost use Rattle.bare_machine.specs.Buffered.{KeptSlice};
+ghost use Rattle.bare_machine.specs.Events.{NoneComes};
 ghost use Rattle.bare_machine.specs.Machine.{state_of, IsKept, GoesOn};
 ghost use Rattle.bare_machine.specs.Once.{OnceAs};
 ghost use Rattle.bare_machine.specs.Settings.{bare};
@@ -17,7 +18,7 @@ ghost use Rattle.run_trace.specs.Pauses.{IfReached};
 ghost use Rattle.bare_machine.specs.Starts.{StartedAs, with_cache};
 
 use crate::machine::BareMachine;
-use crate::once::{StepStop, Stepped, one_step};
+use crate::once::{StepRoom, StepStop, Stepped, one_step};
 use crate::slice::take_steps;
 use bare_mem::Cached;
 use board::{Board, Script};
@@ -117,21 +118,22 @@ impl<C: Cache> Bare<C> {
     }
 
     /// Makes one step as a slice of one step does, and answers with what was seen and raised in it, in place of putting its
-    /// lines; or with the stop that it meets. After a stop the machine must not go on.
-    pub fn step_once(&mut self, script: &Script) -> Result<Stepped, StepStop>
+    /// lines; or with the stop that it meets. After a stop the machine must not go on. The room is for steps over one script.
+    pub fn step_once(&mut self, script: &Script, room: &mut StepRoom) -> Result<Stepped, StepStop>
         requires script { is_script script.now.list ≡ true }
         requires kept { IsKept self.old.frames (state_of C.entries self.old) }
         requires bound { self.old.step < 2 ^ 40 }
+        requires none { NoneComes script.now.list self.old.step room.old.next }
+        ensures none { NoneComes script.now.list (self.old.step + 1) room.new.next }
         ensures once { (image : Image) → OnceAs
             (bare image script.now.list self.old.frames) (C.is_exact self.old.kept.cache)
             (state_of C.entries self.old) (state_of C.entries self.new) result }
-        ensures few { IfOk result (λ done. done.items.len ≤ 2) }
         ensures goes_on { OnOk result (GoesOn C.entries C.is_exact self.old self.new) }
         ensures fit { Fit self.old.cpu → OnOk result (Fit self.new.cpu) }
         ensures frames { self.new.frames ≡ self.old.frames }
         ensures size { length self.new.ram ≡ length self.old.ram }
     {
-        one_step(&mut self.machine, script)
+        one_step(&mut self.machine, script, room)
     }
 
     /// The processor.

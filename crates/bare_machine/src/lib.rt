@@ -19,5 +19,5 @@ pub use ending::end_run;
 pub use fresh::run_fresh;
 pub use laws::{each_course_is_a_run, each_kept_course_is_a_run, parts_join};
 pub use machine::BareMachine;
-pub use once::{StepStop, Stepped};
+pub use once::{StepRoom, StepStop, Stepped};
 pub use run::{run_bare, run_on};

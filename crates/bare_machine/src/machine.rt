@@ -9,6 +9,7 @@ ghost use Rattle.step_mem.specs.Changes.{AreToldIn, AreWithin, changed};
 ghost use Rattle.step_mem.specs.Sound.{space};
 ghost use Rattle.machine_model.specs.State.{State};
 ghost use Rattle.machine_model.specs.Step.{stepped};
+ghost use Rattle.machine_step.specs.Left.{left_of, left_from};
 ghost use Rattle.machine_step.specs.Raised.{raised_of, raised_from};
 ghost use Rattle.machine_step.specs.Worked.{ComesTo, IsDropped, answer_of};
 ghost use Rattle.bare_machine.specs.Buffered.{KeptAs, kept_step};
@@ -70,6 +71,8 @@ pub fn step<C: Cache>(
     ensures count { MatchResult result (λ _. machine.new.step ≡ machine.old.step + 1) (λ _. machine.new.step ≡ machine.old.step) }
     ensures raised { (image : Image) → worked.new.raised ≡ raised_of (bare image script.now.list machine.old.frames)
         (state_of C.entries machine.old) (C.entries machine.old.kept.cache) }
+    ensures stopped_leaves { OnErr result ((image : Image) → space ⟦<Cached<C> as step_mem::Translations>⟧ machine.new.kept machine.new.ram state.new
+        ≡ left_of (bare image script.now.list machine.old.frames) (state_of C.entries machine.old) (C.entries machine.old.kept.cache)) }
     ensures stopped_cpu { OnErr result (machine.new.cpu ≡ machine.old.cpu) }
     ensures stopped_kept { OnErr result (machine.new.kept ≡ machine.old.kept) }
     ensures stopped_board { OnErr result (machine.new.board
@@ -123,6 +126,9 @@ fn tried<C: Cache>(
         (record b { cpu = worked.old.cpu; ram = ram.old; set = C.entries kept.now.cache; board = board.old }))
         b (answer_of result worked.new) board.new (space ⟦<Cached<C> as step_mem::Translations>⟧ kept.now ram.new state.new) }
     ensures raised { (image : Image) (script : Events) (b : State) → worked.new.raised ≡ raised_from (bare image script frames)
+        (record b { cpu = worked.old.cpu; ram = ram.old; set = C.entries kept.now.cache; board = board.old }) }
+    ensures leaves { (image : Image) (script : Events) (b : State)
+        → space ⟦<Cached<C> as step_mem::Translations>⟧ kept.now ram.new state.new ≡ left_from (bare image script frames)
         (record b { cpu = worked.old.cpu; ram = ram.old; set = C.entries kept.now.cache; board = board.old }) }
     ensures stopped { OnErr result (board.new ≡ taken_in worked.old.cpu board.old) }
 {

@@ -7,9 +7,9 @@ ghost use Rattle.look_words.specs.View.{look_view, run_view, aspect_view, only_v
 
 use crate::aspects::{aspect, only};
 use crate::lists::steps;
-use crate::numbers::{is_name, is_word, number};
 use crate::words::{Aspect, LookWords, LookedRun, Only, Steps};
 use arrayvec::ArrayVec;
+use pv_words::{is_name, is_word, number};
 
 /// The form that the words are, if they are one.
 #[tactic(auto, unfolding(crate::specs::Words::form_of))]

@@ -4,9 +4,10 @@ ghost use Rattle.std.specs.Prelude.{◌≡◌, ◌≤◌, ◌<◌, ◌^◌, leng
 ghost use Rattle.look_words.specs.Numbers.{rising_from, all_addresses, steps_said, addresses_said, is_count};
 ghost use Rattle.look_words.specs.View.{AreSteps};
 
-use crate::numbers::{address, number};
+use crate::numbers::address;
 use crate::words::{Addresses, Steps};
 use arrayvec::ArrayVec;
+use pv_words::number;
 
 /// There are 1 to 64 words.
 fn is_count(words: &[String]) -> bool

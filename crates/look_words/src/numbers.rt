@@ -1,51 +1,8 @@
-//! Numbers in words.
+//! Linear addresses in words.
 
-ghost use Rattle.std.specs.Prelude.{◌≡◌, ◌≤◌, ◌<◌, ◌^◌, IfSome, Some, bytes_eq};
+ghost use Rattle.std.specs.Prelude.{◌≡◌, ◌<◌, IfSome};
 ghost use Rattle.board.specs.Texts.{hex_value};
-ghost use Rattle.pv_words.specs.NumberWords.{number_said, at_least};
-ghost use Rattle.pv_words.specs.Words.{is_name};
 ghost use Rattle.look_words.specs.Numbers.{hex_said, after_prefix, address_said};
-
-use board::number_upto;
-
-/// The word is this one.
-pub fn is_word(word: &str, other: &str) -> bool
-    ensures { result ≡ bytes_eq word.now other.now }
-{
-    word == other
-}
-
-/// The word is not empty.
-pub fn is_name(word: &str) -> bool
-    ensures { result ≡ is_name word.now }
-{
-    !word.is_empty()
-}
-
-fn at_least(least: u64, n: Option<u64>) -> Option<u64>
-    ensures value { result ≡ at_least least n }
-    ensures low { IfSome result (λ n. least ≤ n) }
-    ensures same { IfSome result (λ found. n ≡ Some found) }
-{
-    match n {
-        Some(n) if n >= least => Some(n),
-        _ => None,
-    }
-}
-
-/// The decimal number that a word says, where it is in a range.
-#[tactic(auto, unfolding(pv_words::specs::NumberWords::number_said))]
-pub fn number(word: &[u8], least: u64, most: u64) -> Option<u64>
-    requires { most ≤ 2 ^ 40 }
-    ensures value { result ≡ number_said least most word.now }
-    ensures range { IfSome result (λ n. (least ≤ n) × (n ≤ most)) }
-{
-    match word {
-        [] => None,
-        [b'0', _, ..] => None,
-        digits => at_least(least, number_upto(digits, most)),
-    }
-}
 
 fn hex_value(b: u8) -> Option<u8>
     ensures value { result ≡ hex_value b }

@@ -5,4 +5,5 @@ pub mod Fetched
 pub mod Used
 pub mod Rooted
 pub mod Raising
+pub mod Leaving
 pub mod Sleeping

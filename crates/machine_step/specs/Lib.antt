@@ -6,3 +6,4 @@ pub mod Begun
 pub mod Laws
 pub mod Roots
 pub mod Raised
+pub mod Left

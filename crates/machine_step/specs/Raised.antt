@@ -1,5 +1,6 @@
--- What a step raises: the vector of an exception, and the error code that its handler finds. The branches are those of the step;
--- whether the vector is then delivered, or the delivery stops, makes no difference. INT, INT3 and external interrupts raise nothing.
+-- What a step raises: the vector of an exception, the error code that its handler finds, and of a page fault its linear address.
+-- The branches are those of the step; whether the vector is then delivered, or the delivery stops, makes no difference. INT, INT3 and
+-- external interrupts raise nothing.
 use Rattle.std.specs.Prelude.{ℕ, ◌+◌, ◌*◌, ◌%◌, false, Option, Some, None, Ok, Err, ◌==◌, if◌then◌else◌}
 use Rattle.std.specs.FinMap.{FinMap}
 use Rattle.std.specs.Ordering.{nat_cmp}
@@ -31,27 +32,34 @@ use Rattle.machine_model.specs.Instruction.{fetched, instructed}
 use Rattle.machine_model.specs.Step.{code_of, interrupt_of}
 use Rattle.machine_step.specs.declared.worked.Raised.{Raised}
 
--- a vector, with its error code where it pushes one
-abbrev pub raised_as : ℕ → ℕ → Option Raised
-raised_as vector code = Some (record { vector = vector; code = code_of vector code })
+-- a page fault's address, which is in CR2 of the processor from which the fault is delivered
+abbrev pub fault_address : ℕ → Cpu → Option ℕ
+fault_address vector cpu = if vector == 14 then Some cpu.cr2 else None
 
--- an instruction's effect
-abbrev pub raised_by_effect : SysEffect → Option Raised
-raised_by_effect (effects.Raise vector code) = raised_as vector code
-raised_by_effect _ = None
+-- a vector that is raised from this processor, with its error code where it pushes one
+abbrev pub raised_as : Cpu → ℕ → ℕ → Option Raised
+raised_as cpu vector code = Some (record { vector = vector; code = code_of vector code; at = fault_address vector cpu })
+
+-- an instruction's effect, which left this processor
+abbrev pub raised_by_effect : Cpu → SysEffect → Option Raised
+raised_by_effect cpu (effects.Raise vector code) = raised_as cpu vector code
+raised_by_effect cpu _ = None
+
+abbrev pub raised_by_told : SysEffect × Cpu × Space → Option Raised
+raised_by_told told = raised_by_effect told.1 told.0
 
 -- the outcome of an instruction that this processor did
 abbrev pub raised_by_outcome : Cpu → Outcome Refusal SysOutcome → Option Raised
-raised_by_outcome cpu outcome = raised_by_effect (told cpu outcome).0
+raised_by_outcome cpu outcome = raised_by_told (told cpu outcome)
 
 -- INT raises #GP where this level may not use its gate
-abbrev pub raised_by_gate : ℕ → Outcome NotDelivered Cpu → Option Raised
-raised_by_gate vector (Err (not_delivered.Privilege, s)) = raised_as 13 (8 * vector + 2)
-raised_by_gate vector (Err (not_delivered.Stop stop, s)) = None
-raised_by_gate vector (Ok done) = None
+abbrev pub raised_by_gate : Cpu → ℕ → Outcome NotDelivered Cpu → Option Raised
+raised_by_gate cpu vector (Err (not_delivered.Privilege, s)) = raised_as cpu 13 (8 * vector + 2)
+raised_by_gate cpu vector (Err (not_delivered.Stop stop, s)) = None
+raised_by_gate cpu vector (Ok done) = None
 
 abbrev pub raised_by_int : Cpu → ℕ → ℕ → Space → Option Raised
-raised_by_int cpu len vector s = raised_by_gate vector (delivered (past cpu len) vector Soft None s)
+raised_by_int cpu len vector s = raised_by_gate cpu vector (delivered (past cpu len) vector Soft None s)
 
 abbrev pub raised_by_op : Op → Cpu → Insn → ℕ → Space → Option Raised
 raised_by_op op.Int cpu insn len s = raised_by_int cpu len (insn.imm % 256) s
@@ -63,14 +71,14 @@ raised_by_decoded cpu (begins.Insn insn len) s = raised_by_op insn.op cpu insn l
 raised_by_decoded cpu _ s = None
 
 -- a fetch that is denied raises a page fault
-abbrev pub raised_by_refusal : Refusal → Option Raised
-raised_by_refusal (refusal.Fault code at) = raised_as 14 code
-raised_by_refusal (refusal.Raise vector code) = raised_as vector code
-raised_by_refusal (refusal.Stop stop) = None
+abbrev pub raised_by_refusal : Cpu → Refusal → Option Raised
+raised_by_refusal cpu (refusal.Fault code at) = raised_as (record cpu { cr2 = at }) 14 code
+raised_by_refusal cpu (refusal.Raise vector code) = raised_as cpu vector code
+raised_by_refusal cpu (refusal.Stop stop) = None
 
 abbrev pub raised_by_fetch : Cpu → Outcome Refusal Decoded → Option Raised
 raised_by_fetch cpu (Ok read) = raised_by_decoded cpu read.0 read.1
-raised_by_fetch cpu (Err refused) = raised_by_refusal refused.0
+raised_by_fetch cpu (Err refused) = raised_by_refusal cpu refused.0
 
 abbrev pub raised_by_next : Cpu → Space → Option Raised
 raised_by_next cpu s = raised_by_fetch cpu (fetched (cpu.cpl == 3) cpu.regs.eip s)

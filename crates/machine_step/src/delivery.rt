@@ -7,10 +7,11 @@ ghost use Rattle.machine_model.specs.State.{Setting, State as Whole};
 ghost use Rattle.machine_model.specs.Step.{interrupted, interrupts_by, after_refusal, raised, code_of, stop_of};
 ghost use Rattle.machine_model.specs.Taken.{is_load};
 ghost use Rattle.machine_model.specs.UsedPages.{Uses, AtRefusal};
+ghost use Rattle.machine_step.specs.Left.{left_by_interrupt, left_by_int, left_by_raise, left_by_refusal};
 ghost use Rattle.machine_step.specs.Over.{UsesBy};
 ghost use Rattle.machine_step.specs.Roots.{RootsAs, EndsWith};
 ghost use Rattle.machine_step.specs.Ruled.{IsRuled};
-ghost use Rattle.machine_step.specs.Raised.{raised_as, raised_by_int, raised_by_refusal};
+ghost use Rattle.machine_step.specs.Raised.{fault_address, raised_as, raised_by_int, raised_by_refusal};
 ghost use Rattle.machine_step.specs.Worked.{ComesTo, IsDropped, answer_of, completed_of, done_by};
 
 use crate::rules::{Rules, entered};
@@ -43,6 +44,7 @@ pub fn deliver<M: StepMemory>(
     ensures dropped { IfOk (answer_of result worked.new) (λ w. IsDropped w.dropped) }
     ensures roots { IfOk (answer_of result worked.new) (RootsAs worked.old.cpu) }
     ensures raised { worked.new.raised ≡ worked.old.raised }
+    ensures leaves { M.space mem.new ≡ left_by_interrupt worked.old.cpu vector (M.space mem.old) }
     ensures frame { M.frame mem.new ≡ M.frame mem.old }
 {
     works_use();
@@ -73,6 +75,7 @@ pub fn enter<M: StepMemory>(
     ensures dropped { IfOk (answer_of result worked.new) (λ w. IsDropped w.dropped) }
     ensures roots { IfOk (answer_of result worked.new) (RootsAs before.now) }
     ensures raised { worked.new.raised ≡ raised_by_int before.now len vector (M.space mem.old) }
+    ensures leaves { M.space mem.new ≡ left_by_int before.now len vector (M.space mem.old) }
     ensures frame { M.frame mem.new ≡ M.frame mem.old }
 {
     works_use();
@@ -132,7 +135,8 @@ pub fn refuse_at<M: StepMemory>(
         b (answer_of result worked.new) b.board (M.space mem.new) }
     ensures dropped { IfOk (answer_of result worked.new) (λ w. IsDropped w.dropped) }
     ensures roots { IfOk (answer_of result worked.new) (RootsAs worked.old.cpu) }
-    ensures raised { worked.new.raised ≡ raised_by_refusal refusal }
+    ensures raised { worked.new.raised ≡ raised_by_refusal worked.old.cpu refusal }
+    ensures leaves { M.space mem.new ≡ left_by_refusal worked.old.cpu refusal (M.space mem.old) }
     ensures frame { M.frame mem.new ≡ M.frame mem.old }
 {
     match refusal {
@@ -160,12 +164,14 @@ pub fn raise<M: StepMemory>(
         b (answer_of result worked.new) b.board (M.space mem.new) }
     ensures dropped { IfOk (answer_of result worked.new) (λ w. IsDropped w.dropped) }
     ensures ends { IfOk (answer_of result worked.new) (EndsWith None worked.old.cpu) }
-    ensures raised { worked.new.raised ≡ raised_as vector code }
+    ensures raised { worked.new.raised ≡ raised_as worked.old.cpu vector code }
+    ensures leaves { M.space mem.new ≡ left_by_raise worked.old.cpu vector code (M.space mem.old) }
     ensures frame { M.frame mem.new ≡ M.frame mem.old }
 {
     works_use();
     let code = code_of(vector, code);
-    worked.raised = Some(Raised { vector, code });
+    let at = fault_address(vector, &worked.cpu);
+    worked.raised = Some(Raised { vector, code, at });
     match event_entry::deliver(&mut worked.cpu, mem, vector, Kind::Raised, code) {
         Ok(()) => entered(rules, Seen::Nothing, None, worked),
         Err(refused) => Err(stop_of(refused)),
@@ -180,6 +186,13 @@ fn code_of(vector: u8, code: u32) -> Option<u32>
     } else {
         None
     }
+}
+
+/// The address of a page fault, which is in CR2 when it is delivered.
+fn fault_address(vector: u8, cpu: &Cpu) -> Option<u32>
+    ensures { result ≡ fault_address vector cpu.now }
+{
+    if vector == 14 { Some(cpu.cr2) } else { None }
 }
 
 fn stop_of(refused: NotDelivered) -> Stop

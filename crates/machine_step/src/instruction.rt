@@ -8,6 +8,7 @@ ghost use Rattle.machine_model.specs.State.{Setting, State as Whole};
 ghost use Rattle.machine_model.specs.Instruction.{instructed};
 ghost use Rattle.machine_model.specs.Step.{by_decoded, after_instruction, after_effect};
 ghost use Rattle.machine_step.specs.Begun.{AtEffect};
+ghost use Rattle.machine_step.specs.Left.{left_by_effect, left_by_outcome, left_by_op};
 ghost use Rattle.machine_step.specs.Over.{UsesBy};
 ghost use Rattle.machine_step.specs.Raised.{raised_by_effect, raised_by_outcome, raised_by_op};
 ghost use Rattle.machine_step.specs.Roots.{RootsAs, EffectRoots};
@@ -74,6 +75,7 @@ pub fn carry_out_at<M: StepMemory>(
     ensures dropped { IfOk (answer_of result worked.new) (λ w. IsDropped w.dropped) }
     ensures roots { IfOk (answer_of result worked.new) (RootsAs worked.old.cpu) }
     ensures raised { worked.new.raised ≡ raised_by_op insn.now.op worked.old.cpu insn.now len (M.space mem.old) }
+    ensures leaves { M.space mem.new ≡ left_by_op insn.now.op worked.old.cpu insn.now len (M.space mem.old) }
     ensures frame { M.frame mem.new ≡ M.frame mem.old }
 {
     let before = worked.cpu;
@@ -110,6 +112,7 @@ fn perform<M: StepMemory>(
     ensures dropped { IfOk (answer_of result worked.new) (λ w. IsDropped w.dropped) }
     ensures roots { IfOk (answer_of result worked.new) (RootsAs before.now) }
     ensures raised { worked.new.raised ≡ raised_by_outcome before.now (instructed insn.now len before.now (M.space mem.old)) }
+    ensures leaves { M.space mem.new ≡ left_by_outcome before.now (instructed insn.now len before.now (M.space mem.old)) }
     ensures frame { M.frame mem.new ≡ M.frame mem.old }
 {
     works_use();
@@ -140,7 +143,8 @@ fn follow<M: StepMemory>(
     ensures stopped { OnErr result (board.new ≡ board.old) }
     ensures dropped { IfOk (answer_of result worked.new) (λ w. IsDropped w.dropped) }
     ensures roots { IfOk (answer_of result worked.new) (RootsAs before.now) }
-    ensures raised { worked.new.raised ≡ raised_by_effect effect }
+    ensures raised { worked.new.raised ≡ raised_by_effect worked.old.cpu effect }
+    ensures leaves { M.space mem.new ≡ left_by_effect effect worked.old.cpu (M.space mem.old) }
     ensures frame { M.frame mem.new ≡ M.frame mem.old }
 {
     match effect {

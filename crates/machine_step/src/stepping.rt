@@ -10,6 +10,7 @@ ghost use Rattle.machine_model.specs.State.{Setting, State as Whole};
 ghost use Rattle.machine_model.specs.Step.{stepped, interrupt_of};
 ghost use Rattle.machine_model.specs.Step as steps;
 ghost use Rattle.machine_step.specs.Begun.{control_of, taken_by};
+ghost use Rattle.machine_step.specs.Left.{left_at_work, left_in, left_from};
 ghost use Rattle.machine_step.specs.Over.{first_space, under, begins_over, stepped_in, UsesBy};
 ghost use Rattle.machine_step.specs.Raised.{raised_at_work, raised_in, raised_from};
 ghost use Rattle.machine_step.specs.Roots.{RootsAs};
@@ -59,6 +60,9 @@ pub fn step_again<'g, B: Translations>(
     ensures roots { IfOk (answer_of result worked.new) (RootsAs worked.old.cpu) }
     ensures raised { (m : Setting) (b : Whole) → IsRuled (under m guard.entry frames) rules.now → worked.new.raised
         ≡ raised_from (under m guard.entry frames)
+        (begins_over B.Translations kept.now ram.old guard.entry frames (record b { cpu = worked.old.cpu; board = board.old })) }
+    ensures leaves { (m : Setting) (b : Whole) → IsRuled (under m guard.entry frames) rules.now
+        → space B.Translations kept.now ram.new state.new ≡ left_from (under m guard.entry frames)
         (begins_over B.Translations kept.now ram.old guard.entry frames (record b { cpu = worked.old.cpu; board = board.old })) }
     ensures stays { FetchesIn (begun (control_of frames worked.old.cpu) guard.entry) state.new ram.old ram.new }
 {
@@ -186,6 +190,8 @@ fn step_at<B: Translations>(
     ensures roots { IfOk (answer_of result worked.new) (RootsAs worked.old.cpu) }
     ensures raised { (m : Setting) → IsRuled m rules.now → worked.new.raised
         ≡ raised_in m worked.old.cpu board.old (space B.Translations kept.now ram.old state.old) }
+    ensures leaves { (m : Setting) → IsRuled m rules.now → space B.Translations kept.now ram.new state.new
+        ≡ left_in m worked.old.cpu board.old (space B.Translations kept.now ram.old state.old) }
     ensures stays { FetchesIn state.old state.new ram.old ram.new }
 {
     step_over(rules, worked, board, &mut Memory { ram, kept, state })
@@ -208,6 +214,8 @@ fn step_over<M: StepMemory>(
     ensures roots { IfOk (answer_of result worked.new) (RootsAs worked.old.cpu) }
     ensures raised { (m : Setting) → IsRuled m rules.now → worked.new.raised
         ≡ raised_in m worked.old.cpu board.old (M.space mem.old) }
+    ensures leaves { (m : Setting) → IsRuled m rules.now → M.space mem.new
+        ≡ left_in m worked.old.cpu board.old (M.space mem.old) }
     ensures frame { M.frame mem.new ≡ M.frame mem.old }
 {
     let taken = interrupt(&worked.cpu, board);
@@ -232,7 +240,7 @@ pub fn interrupt(cpu: &Cpu, board: &Board) -> Option<u8>
 }
 
 /// A halted processor does nothing, and another does the instruction at EIP.
-#[tactic(auto, unfolding(machine_model::specs::Step::worked, crate::specs::Raised::raised_at_work))]
+#[tactic(auto, unfolding(machine_model::specs::Step::worked, crate::specs::Raised::raised_at_work, crate::specs::Left::left_at_work))]
 fn work<M: StepMemory>(
     rules: &Rules,
     worked: &mut Worked,
@@ -250,6 +258,8 @@ fn work<M: StepMemory>(
     ensures roots { IfOk (answer_of result worked.new) (RootsAs worked.old.cpu) }
     ensures raised { (m : Setting) → IsRuled m rules.now → worked.new.raised
         ≡ raised_at_work m worked.old.cpu (M.space mem.old) }
+    ensures leaves { (m : Setting) → IsRuled m rules.now → M.space mem.new
+        ≡ left_at_work m worked.old.cpu (M.space mem.old) }
     ensures frame { M.frame mem.new ≡ M.frame mem.old }
 {
     if worked.cpu.halted {

@@ -40,10 +40,12 @@ pub struct Completed {
 }
 
 /// An exception's vector that an instruction raised, and the error code that its handler finds: vectors 11 to 14 have one.
+/// Of a page fault also the linear address, which CR2 takes whether the fault is delivered or its delivery stops.
 #[derive(Clone, Copy)]
 pub struct Raised {
     pub vector: u8,
     pub code: Option<u32>,
+    pub at: Option<u32>,
 }
 
 /// A step that went: what was seen, the instruction that completed, the processor, what is dropped, and what an instruction

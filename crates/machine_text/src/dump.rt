@@ -87,7 +87,8 @@ fn add_letters<C: Cache>(memory: &Mapped<'_, C>, at: u32, n: u32, line: &mut Lin
     requires within { IsWithin (seen C.entries memory.now) }
     requires few { n ≤ 16 }
     requires room { length line.old.items ≤ 100 }
-    ensures text { line.new.items ≡ line.old.items ++ below (λ i. spec.letter (byte_now (seen C.entries memory.now) (spec.address at i))) n }
+    ensures text { line.new.items
+        ≡ line.old.items ++ below (λ i. spec.letter (byte_now (seen C.entries memory.now) (spec.address at i))) n }
     ensures len { length line.new.items ≤ length line.old.items + n }
 {
     for i in 0..n {

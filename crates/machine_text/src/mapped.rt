@@ -12,6 +12,7 @@ use xlate_buffer::Cache;
 
 /// The memory of a machine, by which linear addresses are reached: what is cached goes first, then what a walk finds.
 /// No flag is set.
+#[derive(Drop)]
 pub struct Mapped<'a, C: Cache> {
     pub ram: &'a Ram,
     pub frames: u32,

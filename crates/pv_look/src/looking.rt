@@ -28,7 +28,8 @@ fn look_up<F: Files, S: Sink>(
 ) -> Status
     requires within { IsWithin asked }
     ensures meaning { (completed : HostCounts) (memory : List ℕ)
-        → Means (task_of (look_view asked.entry)) (beside F.Files S.Sink (files.old, files.new) (out.old, out.new) completed memory) result }
+        → Means (task_of (look_view asked.entry))
+        (beside F.Files S.Sink (files.old, files.new) (out.old, out.new) completed memory) result }
     ensures counts { (completed : HostCounts) (memory : List ℕ)
         → FaultCounts (task_of (look_view asked.entry)) (beside F.Files S.Sink (files.old, files.new) (out.old, out.new) completed memory) }
     ensures ends { FaultsEnd F.Files S.Sink (files.old, files.new) (out.old, out.new) result }

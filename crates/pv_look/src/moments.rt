@@ -37,18 +37,11 @@ fn add_aspect<C: Cache>(
         cpu: machine.cpu(),
         cache: machine.cache(),
     };
-    let added = match aspect {
+    match aspect {
         Aspect::Whole => add_state(&memory, machine.board(), text),
         Aspect::Walk(address) => add_walk(&memory, address, text),
         Aspect::Memory { address, len } => add_memory(&memory, address, len, text),
-    };
-    let Mapped {
-        ram: _ram,
-        frames: _frames,
-        cpu: _cpu,
-        cache: _cache,
-    } = memory;
-    added
+    }
 }
 
 /// What is asked of a machine, after a line with the count of steps before it.

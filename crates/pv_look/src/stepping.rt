@@ -29,9 +29,11 @@ pub fn steps<F: Files, S: Sink>(
     requires run { IsRun run }
     requires bound { to ≤ 2 ^ 40 }
     ensures meaning { (completed : HostCounts) (memory : List ℕ)
-        → Means (steps_task (run_view run.entry) from to (only_view only)) (beside F.Files S.Sink (files.old, files.new) (out.old, out.new) completed memory) result }
+        → Means (steps_task (run_view run.entry) from to (only_view only))
+        (beside F.Files S.Sink (files.old, files.new) (out.old, out.new) completed memory) result }
     ensures counts { (completed : HostCounts) (memory : List ℕ)
-        → FaultCounts (steps_task (run_view run.entry) from to (only_view only)) (beside F.Files S.Sink (files.old, files.new) (out.old, out.new) completed memory) }
+        → FaultCounts (steps_task (run_view run.entry) from to (only_view only))
+        (beside F.Files S.Sink (files.old, files.new) (out.old, out.new) completed memory) }
     ensures ends { FaultsEnd F.Files S.Sink (files.old, files.new) (out.old, out.new) result }
 {
     match runnable_in_files(alloc, run.image, run.script, files) {

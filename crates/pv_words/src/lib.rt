@@ -9,4 +9,5 @@ mod share_words;
 mod words;
 
 pub use mode::RunMode;
-pub use words::{CommandWords, RestWords, RunWords, ShareWords, form};
+pub use number_words::number;
+pub use words::{CommandWords, RestWords, RunWords, ShareWords, form, is_name, is_word};

@@ -5,7 +5,7 @@ use Rattle.step_text.specs.declared.activity.Activity.{Activity}
 use Rattle.step_text.specs.declared.raised.Raised.{Raised}
 use Rattle.step_text.specs.Began.{began_text}
 use Rattle.step_text.specs.Changed.{processor_changes}
-use Rattle.step_text.specs.Raised.{raised_text, undelivered_text, interrupt_text}
+use Rattle.step_text.specs.Raised.{raised_text, undelivered_text, access_text, interrupt_text}
 use Rattle.step_text.specs.Stored.{stored_text}
 
 -- The entries of what a step did, each after two blanks: the exception or the handler, the registers that changed, and the
@@ -21,6 +21,6 @@ after_bar entries = if length entries == 0 then [] else (codes " |" ++ drop 1 en
 unfoldable pub went_line : ℕ → Activity → Cpu → Cpu → Option Raised → ℕ → List ℕ → List ℕ
 went_line step does old new raised at bytes = began_text step old does ++ after_bar (entries does old new raised at bytes) ++ codes "\n"
 
--- a step that stops, with what its instruction raised
-unfoldable pub stopping_line : ℕ → Activity → Cpu → Option Raised → List ℕ
-stopping_line step does old raised = began_text step old does ++ after_bar (undelivered_text raised) ++ codes "\n"
+-- a step that stops, with what its instruction raised, and the access at which it stops
+unfoldable pub stopping_line : ℕ → Activity → Cpu → Option Raised → Option ℕ → List ℕ
+stopping_line step does old raised at = began_text step old does ++ after_bar (undelivered_text raised ++ access_text at) ++ codes "\n"

@@ -6,7 +6,7 @@ ghost use Rattle.step_text.specs.Line as spec;
 use crate::activity::Activity;
 use crate::began::put_began;
 use crate::changed::put_changes;
-use crate::raised::{Raised, put_interrupt, put_raised, put_undelivered};
+use crate::raised::{Raised, put_access, put_interrupt, put_raised, put_undelivered};
 use crate::row::{Row, extend};
 use crate::stored::put_stored;
 use arrayvec::ArrayVec;
@@ -71,14 +71,23 @@ pub fn put_went(
     extend(b"\n", row);
 }
 
-/// Puts the line of a step that stops, by the processor before it, with what its instruction raised.
+/// Puts the line of a step that stops, by the processor before it, with what its instruction raised and the linear address of
+/// the access at which it stops.
 #[tactic(auto, unfolding(crate::specs::Line::stopping_line))]
-pub fn put_stopping(step: u64, does: Activity, old: &Cpu, raised: Option<Raised>, row: &mut Row)
+pub fn put_stopping(
+    step: u64,
+    does: Activity,
+    old: &Cpu,
+    raised: Option<Raised>,
+    at: Option<u32>,
+    row: &mut Row,
+)
     requires { row.old.items ≡ [] }
-    ensures { row.new.items ≡ spec.stopping_line step does old.now raised }
+    ensures { row.new.items ≡ spec.stopping_line step does old.now raised at }
 {
     let mut entries: Row = ArrayVec::new();
     put_undelivered(raised, &mut entries);
+    put_access(at, &mut entries);
     put_began(step, old, does, row);
     put_after_bar(entries.as_slice(), row);
     extend(b"\n", row);

@@ -1,4 +1,4 @@
-//! The exception that a step raised, and the handler that it entered.
+//! The exception that a step raised, the handler that it entered, and the access at which it stops.
 
 ghost use Rattle.std.specs.Prelude.{◌≡◌, ◌+◌, ◌++◌, ◌≤◌, ◌==◌, ◌%◌, length, codes};
 ghost use Rattle.run_trace.specs.Text.{hex8};
@@ -10,11 +10,12 @@ use arrayvec::ArrayVec;
 use descriptors::Cpu;
 use ia32_text::{Line, add, eight_digits, four_digits, two_digits};
 
-/// An exception: its vector, and the error code that was pushed, where it has one.
+/// An exception: its vector, its error code, where it has one, and the linear address of a page fault.
 #[derive(Clone, Copy)]
 pub struct Raised {
     pub vector: u8,
     pub code: Option<u32>,
+    pub at: Option<u32>,
 }
 
 #[tactic(auto, unfolding(crate::specs::Raised::vector_name))]
@@ -58,13 +59,13 @@ fn put_marked(mark: &[u8], number: u32, line: &mut Line)
 }
 
 #[tactic(auto, unfolding(crate::specs::Raised::address_text))]
-fn put_address(vector: u8, after: &Cpu, line: &mut Line)
+fn put_address(at: Option<u32>, line: &mut Line)
     requires { length line.old.items ≤ 100 }
-    ensures text { line.new.items ≡ line.old.items ++ spec.address_text vector after.now }
+    ensures text { line.new.items ≡ line.old.items ++ spec.address_text at }
     ensures len { length line.new.items ≤ length line.old.items + 12 }
 {
-    if vector == 14 {
-        put_marked(b" at ", after.cr2, line);
+    if let Some(at) = at {
+        put_marked(b" at ", at, line);
     }
 }
 
@@ -79,11 +80,12 @@ fn put_handler(after: &Cpu, line: &mut Line)
 fn put_exception(raised: Raised, line: &mut Line)
     requires { length line.old.items ≤ 10 }
     ensures text { line.new.items ≡ line.old.items ++ spec.exception_text raised }
-    ensures len { length line.new.items ≤ length line.old.items + 10 }
+    ensures len { length line.new.items ≤ length line.old.items + 22 }
 {
     add(b"  #", line);
     put_vector(raised.vector, line);
     put_code(raised.code, line);
+    put_address(raised.at, line);
 }
 
 /// Puts the exception that was raised, with the processor after the step.
@@ -96,7 +98,6 @@ pub fn put_raised(raised: Option<Raised>, after: &Cpu, row: &mut Row)
     if let Some(raised) = raised {
         let mut line: Line = ArrayVec::new();
         put_exception(raised, &mut line);
-        put_address(raised.vector, after, &mut line);
         put_handler(after, &mut line);
         extend(line.as_slice(), row);
     }
@@ -107,11 +108,26 @@ pub fn put_raised(raised: Option<Raised>, after: &Cpu, row: &mut Row)
 pub fn put_undelivered(raised: Option<Raised>, row: &mut Row)
     requires { length row.old.items ≤ 100 }
     ensures text { row.new.items ≡ row.old.items ++ spec.undelivered_text raised }
-    ensures len { length row.new.items ≤ length row.old.items + 10 }
+    ensures len { length row.new.items ≤ length row.old.items + 22 }
 {
     if let Some(raised) = raised {
         let mut line: Line = ArrayVec::new();
         put_exception(raised, &mut line);
+        extend(line.as_slice(), row);
+    }
+}
+
+/// Puts the linear address of the access at which a step stops.
+#[tactic(auto, unfolding(crate::specs::Raised::access_text))]
+pub fn put_access(at: Option<u32>, row: &mut Row)
+    requires { length row.old.items ≤ 100 }
+    ensures text { row.new.items ≡ row.old.items ++ spec.access_text at }
+    ensures len { length row.new.items ≤ length row.old.items + 17 }
+{
+    if let Some(at) = at {
+        let mut line: Line = ArrayVec::new();
+        add(b"  access ", &mut line);
+        eight_digits(at, &mut line);
         extend(line.as_slice(), row);
     }
 }

@@ -1,5 +1,5 @@
 -- The last line of a trace.
-use Rattle.std.proofs.Common.{◌≡◌, ℕ, ◌<◌, ◌≤◌, nat_le, Bool, false, List, [], ◌∷◌, ◌++◌, Option, Result, Ok, Err, refl, sym, ap, subst, ◌∙◌, append_assoc, arith}
+use Rattle.std.proofs.Common.{◌≡◌, ℕ, ◌<◌, ◌≤◌, nat_le, Bool, false, List, [], ◌++◌, Option, Result, Ok, Err, refl, sym, ap, subst, ◌∙◌, arith}
 use Rattle.std.proofs.lemmas.List.{append-nil}
 use Rattle.std.proofs.lemmas.Bool.{lt-leb}
 use Rattle.pv_io.specs.declared.answer.Failed.{Failed}
@@ -18,17 +18,16 @@ use Rattle.run_trace.specs.declared.items.End.{End}
 use Rattle.run_trace.specs.declared.items.End.TheVariants.{Bound, Stopped}
 use Rattle.run_trace.specs.declared.items.Ended.{Ended}
 use Rattle.run_trace.specs.Pauses.{end_of}
-use Rattle.run_trace.specs.Text.{lines_of, end_line}
+use Rattle.run_trace.specs.Text.{end_line}
 use Rattle.look_words.specs.Words.{Only}
 use Rattle.machine_model.specs.State.{Setting, State, boot}
-use Rattle.machine_model.specs.Step.{Halts, step_of}
-use Rattle.machine_model.specs.Run.{trace_of, with_set}
+use Rattle.machine_model.specs.Run.{with_set}
 use Rattle.bare_machine.specs.Settings.{bare}
 use Rattle.bare_machine.specs.Ending.{EndsAs}
 use Rattle.bare_machine.specs.Slices.{SliceAs}
 use Rattle.step_trace.specs.Lines.{stop_line}
 use Rattle.step_trace.specs.Traces.{lines_by, Traces, HasTrace}
-use Rattle.step_trace.specs.Answers.{HasPut, PutToStop, PutFront, PausesWith, TracesAs, TraceAnswers}
+use Rattle.step_trace.specs.Answers.{HasPut, PutFront, PausesWith, TracesAs, TraceAnswers}
 use Rattle.step_trace.proofs.Quiet.{quiet}
 use Rattle.step_trace.proofs.Going.{stopped_traces, bound_traces, from_slice, extended, front_put}
 

@@ -11,14 +11,14 @@ use Rattle.run_trace.specs.Text.{lines_of, end_line}
 use Rattle.look_words.specs.Words.{Only}
 use Rattle.machine_model.specs.State.{Setting, State}
 use Rattle.machine_model.specs.Step.{Report, Went, Halts, step_of}
-use Rattle.machine_model.specs.Run.{Set, Run, Steps, stopping, trace_of, with_set}
+use Rattle.machine_model.specs.Run.{Set, Steps, stopping, trace_of, with_set}
 use Rattle.machine_model.proofs.Ending.{each_ends}
 use Rattle.machine_model.proofs.Counted.{counted_by}
 use Rattle.bare_machine.specs.Machine.{Passes}
 use Rattle.bare_machine.proofs.Runs.{part_allowed, same_step, steps_on, steps_join}
 use Rattle.step_trace.specs.Lines.{line_if_printed, stop_line, lines_of_stop}
 use Rattle.step_trace.specs.Traces.{lines_by, trace_text, Traces}
-use Rattle.step_trace.specs.Answers.{WentOn, IsCut, Within, AtStop, StepPuts, HasPut, PutToStop, PutFront, PausesWith}
+use Rattle.step_trace.specs.Answers.{WentOn, IsCut, Within, AtStop, StepPuts, HasPut, PutFront, PausesWith}
 use Rattle.step_trace.proofs.Quiet.{lines_by_join, lines_by_one, same_line, quiet}
 
 -- the lines of one step more

@@ -2,3 +2,5 @@ pub mod Quiet
 pub mod Going
 pub mod Ends
 pub mod Found
+pub mod Denying
+pub mod Told

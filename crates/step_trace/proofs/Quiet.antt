@@ -1,12 +1,9 @@
 -- The lines of several steps: of two parts one after the other, of steps of which none is printed, and of items alone.
-use Rattle.std.proofs.Common.{◌≡◌, ℕ, ◌+◌, ◌<◌, ◌≤◌, nat_le, ◌&&◌, Bool, true, false, List, [], ◌∷◌, ◌++◌, length, map, refl, sym, ap, subst, ◌∙◌, append_assoc, arith, if◌then◌else◌}
+use Rattle.std.proofs.Common.{◌≡◌, ℕ, ◌<◌, ◌≤◌, nat_le, ◌&&◌, Bool, false, List, [], ◌∷◌, ◌++◌, map, refl, sym, ap, ◌∙◌, arith}
 use Rattle.std.specs.List.{flat_map}
-use Rattle.std.proofs.lemmas.List.{append-nil}
 use Rattle.std.proofs.lemmas.Bool.{lt-leb}
 use Rattle.std.proofs.lemmas.List.Concat.{flat_map-append}
-use Rattle.run_trace.specs.declared.items.Item.{Item}
-use Rattle.run_trace.specs.declared.items.End.{End}
-use Rattle.run_trace.specs.Text.{item_line, lines_of, end_line, text_of}
+use Rattle.run_trace.specs.Text.{lines_of, end_line}
 use Rattle.look_words.specs.Words.{Only}
 use Rattle.machine_model.specs.State.{Setting, State}
 use Rattle.machine_model.specs.Step.{Report, Went, step_of}

@@ -1,4 +1,7 @@
 pub mod Doing
+pub mod Stops
+pub mod Denials
+pub mod Ahead
 pub mod Wanted
 pub mod Lines
 pub mod Before

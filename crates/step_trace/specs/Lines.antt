@@ -10,12 +10,13 @@ use Rattle.machine_model.specs.State.{Setting, State}
 use Rattle.machine_model.specs.Run.{Set, with_set}
 use Rattle.machine_model.specs.Taken.{Taken}
 use Rattle.step_trace.specs.Doing.{activity_of, range_of, written_range, start_of, bytes_after}
+use Rattle.step_trace.specs.Stops.{stop_address}
 use Rattle.step_trace.specs.Wanted.{wants}
 
 -- an exception as a line has it
 abbrev pub exception_of : Option Raised → Option text.Raised
 exception_of None = None
-exception_of (Some raised) = Some (record { vector = raised.vector; code = raised.code })
+exception_of (Some raised) = Some (record { vector = raised.vector; code = raised.code; at = raised.at })
 
 -- The line of a step from a state, whose translations the step used, to another: what the processor does, what was raised,
 -- what changed, and the bytes that stand where the instruction wrote.
@@ -41,7 +42,8 @@ step_lines m from only t = line_if_printed m from only (with_set t.before t.set)
 
 -- the line of the step that stops, from a step on
 unfoldable pub stop_line : Setting → ℕ → State → List ℕ
-stop_line m from b = if nat_le from b.step then stopping_line b.step (activity_of m b) b.cpu (exception_of (raised_of m b b.set)) else []
+stop_line m from b =
+    if nat_le from b.step then stopping_line b.step (activity_of m b) b.cpu (exception_of (raised_of m b b.set)) (stop_address m b) else []
 
 -- none where the run ends at its bound
 abbrev pub lines_of_stop : Setting → ℕ → State → List Set → List ℕ

@@ -1,5 +1,5 @@
 -- Which steps' lines are printed.
-use Rattle.std.specs.Prelude.{ℕ, ◌+◌, ◌==◌, ◌&&◌, nat_lt, Bool, true, false, List, Option, Some, None}
+use Rattle.std.specs.Prelude.{ℕ, ◌+◌, ◌==◌, ◌&&◌, nat_lt, Bool, true, false, Option, Some, None}
 use Rattle.std.specs.List.{list_any}
 use Rattle.ia32_exec.specs.declared.access.Range.{Range}
 use Rattle.look_words.specs.Words.{Only, Each, At, On}

@@ -1,25 +1,21 @@
 //! The lines that are added to a trace.
 
-ghost use Rattle.std.specs.Prelude.{◌≡◌, ◌*◌, ◌≤◌, ◌<◌, [], length, true, Some, IfSome, OnOk, OnErr};
-ghost use Rattle.board.specs.ScriptForm.{is_script};
-ghost use Rattle.image_check.specs.Image.{Image};
+ghost use Rattle.std.specs.Prelude.{◌≡◌, ◌*◌, ◌≤◌, ◌<◌, [], length, Some, IfSome, IfNone, OnOk, OnErr};
 ghost use Rattle.pv_io.specs.Causes.{Rose};
 ghost use Rattle.pv_io.specs.Sink.{Appends, AppendsFront};
 ghost use Rattle.linear_view.specs.View.{view_of};
-ghost use Rattle.linear_view.specs.Range.{places_of};
 ghost use Rattle.bare_machine.specs.Machine.{state_of, IsKept};
-ghost use Rattle.bare_machine.specs.Settings.{bare};
 ghost use Rattle.look_words.specs.View.{only_view};
 ghost use Rattle.step_text.specs.Line as text;
-ghost use Rattle.step_trace.specs.Doing.{activity_of, range_of, written_range, start_of, bytes_by};
-ghost use Rattle.step_trace.specs.Before.{line_by, stop_by};
+ghost use Rattle.step_trace.specs.Before.{IsFound, IsWithin, Unprinted, line_by, stop_by};
+ghost use Rattle.step_trace.specs.Doing.{written_range, start_of, bytes_by};
 ghost use Rattle.step_trace.specs.Lines as spec;
 
-use crate::doing::{activity_of, places_before, range_of};
-use crate::wanted::wants;
+use crate::doing::{places_before, range_of};
+use crate::stops::address_of;
+use crate::wanted::{is_passed_by, wants};
 use arrayvec::ArrayVec;
 use bare_machine::Bare;
-use board::Script;
 use descriptors::Cpu;
 use guest_ram::Ram;
 use ia32_decode::Bytes;
@@ -31,7 +27,7 @@ use pv_io::{Failed, Sink};
 use step_text::{Activity, Row, put_stopping, put_went};
 use xlate_buffer::Cache;
 
-/// What is known of a step before it is done.
+/// What is known of a step before it is done whose line may be printed.
 #[derive(Clone, Copy)]
 pub struct Before {
     pub step: u64,
@@ -43,30 +39,34 @@ pub struct Before {
     pub places: Places,
 }
 
-/// What is known of the next step.
-pub fn before_step<C: Cache>(machine: &Bare<C>, script: &Script) -> Before
-    requires script { is_script script.now.list ≡ true }
+/// What is known of the next step, by what the processor does in it; none where its line isn't printed, whatever it raises.
+pub fn before_printed<C: Cache>(
+    machine: &Bare<C>,
+    does: Activity,
+    from: u64,
+    only: &Only,
+) -> Option<Before>
     requires kept { IsKept machine.now.frames (state_of C.entries machine.now) }
-    ensures step { result.step ≡ machine.now.step }
-    ensures cpu { result.cpu ≡ machine.now.cpu }
-    ensures does { (image : Image) → result.does ≡ activity_of (bare image script.now.list machine.now.frames) (state_of C.entries machine.now) }
-    ensures range { result.range ≡ range_of result.does machine.now.cpu.regs }
-    ensures few { IfSome result.range (λ range. range.len ≤ 32) }
-    ensures places { IfSome result.range (λ range. result.places
-        ≡ places_of (view_of machine.now.ram machine.now.frames machine.now.cpu (C.entries machine.now.kept.cache)) machine.now.cpu range.at range.len) }
-    ensures first { IfSome result.places.first (λ entry. entry.frame < machine.now.frames) }
-    ensures second { IfSome result.places.second (λ entry. entry.frame < machine.now.frames) }
+    ensures none { IfNone result (Unprinted (only_view only.now) from machine.now.step does machine.now.cpu.regs) }
+    ensures found { IfSome result (IsFound (view_of machine.now.ram machine.now.frames machine.now.cpu (C.entries machine.now.kept.cache))
+        machine.now.step machine.now.cpu does) }
+    ensures within { IfSome result (IsWithin machine.now.frames) }
 {
-    let cpu = *machine.cpu();
-    let does = activity_of(machine, script);
+    let cpu = machine.cpu();
+    if machine.step() < from || is_passed_by(only, cpu.regs.eip) {
+        return None;
+    }
     let range = range_of(does, &cpu.regs);
-    Before {
+    if !wants(only, does, cpu.regs.eip, range) {
+        return None;
+    }
+    Some(Before {
         step: machine.step(),
-        cpu,
+        cpu: *cpu,
         does,
         range,
         places: places_before(machine, range),
-    }
+    })
 }
 
 fn exception_of(raised: Option<Raised>) -> Option<step_text::Raised>
@@ -77,6 +77,7 @@ fn exception_of(raised: Option<Raised>) -> Option<step_text::Raised>
         Some(raised) => Some(step_text::Raised {
             vector: raised.vector,
             code: raised.code,
+            at: raised.at,
         }),
     }
 }
@@ -156,10 +157,8 @@ pub fn put_line<C: Cache, O: Sink>(
     only: &Only,
     out: &mut O,
 ) -> Result<(), Failed>
-    requires few { IfSome before.now.range (λ range. range.len ≤ 32) }
+    requires within { IsWithin after.now.frames before.now }
     requires frames { 4096 * after.now.frames ≤ length after.now.ram }
-    requires first { IfSome before.now.places.first (λ entry. entry.frame < after.now.frames) }
-    requires second { IfSome before.now.places.second (λ entry. entry.frame < after.now.frames) }
     ensures ok { OnOk result (Appends (O.taken out.old) (O.taken out.new)
         (line_by before.now raised after.now.cpu after.now.ram from (only_view only.now))) }
     ensures failed { OnErr result (AppendsFront (O.taken out.old) (O.taken out.new)
@@ -185,28 +184,26 @@ pub fn put_line<C: Cache, O: Sink>(
     out.put(row.as_slice())
 }
 
-/// Puts the line of a step that stops, from a step on.
+/// Puts the line of a step that stops, from a step on, by what it raised and the page of its last access, where that was denied.
 pub fn put_stop<O: Sink>(
-    before: &Before,
+    step: u64,
+    does: Activity,
+    cpu: &Cpu,
     raised: Option<Raised>,
+    page: Option<u32>,
     from: u64,
     out: &mut O,
 ) -> Result<(), Failed>
-    ensures ok { OnOk result (Appends (O.taken out.old) (O.taken out.new) (stop_by before.now raised from)) }
-    ensures failed { OnErr result (AppendsFront (O.taken out.old) (O.taken out.new) (stop_by before.now raised from)) }
+    ensures ok { OnOk result (Appends (O.taken out.old) (O.taken out.new) (stop_by step does cpu.now raised page from)) }
+    ensures failed { OnErr result (AppendsFront (O.taken out.old) (O.taken out.new) (stop_by step does cpu.now raised page from)) }
     ensures kept { OnOk result (O.faults out.new ≡ O.faults out.old) }
     ensures cause { OnErr result (Rose (O.faults out.old) (O.faults out.new)) }
 {
-    if before.step < from {
+    if step < from {
         return Ok(());
     }
     let mut row: Row = ArrayVec::new();
-    put_stopping(
-        before.step,
-        before.does,
-        &before.cpu,
-        exception_of(raised),
-        &mut row,
-    );
+    let at = address_of(does, &cpu.regs, raised, page);
+    put_stopping(step, does, cpu, exception_of(raised), at, &mut row);
     out.put(row.as_slice())
 }

@@ -11,7 +11,7 @@ ghost use Rattle.look_words.specs.View.{only_view};
 ghost use Rattle.step_trace.specs.Answers.{HasPut, PausesWith};
 
 use crate::step::step_on;
-use bare_machine::Bare;
+use bare_machine::{Bare, StepRoom};
 use board::Script;
 use look_words::Only;
 use pv_io::{Failed, Sink};
@@ -32,13 +32,16 @@ pub fn steps_on<C: Cache, O: Sink>(
     requires begun { machine.old.step ≤ n }
     requires bound { n ≤ 2 ^ 40 }
     ensures pauses { (image : Image) (first : State) (told : Option (List ℕ))
-        → HasPut (bare image script.now.list machine.old.frames) from (only_view only.now) first (state_of C.entries machine.old) told (O.taken out.old)
-        → PausesWith (bare image script.now.list machine.old.frames) n from (only_view only.now) first (state_of C.entries machine.new) told (O.taken out.new) result }
+        → HasPut (bare image script.now.list machine.old.frames) from (only_view only.now) first
+        (state_of C.entries machine.old) told (O.taken out.old)
+        → PausesWith (bare image script.now.list machine.old.frames) n from (only_view only.now) first
+        (state_of C.entries machine.new) told (O.taken out.new) result }
     ensures kept { OnOk result (O.faults out.new ≡ O.faults out.old) }
     ensures cause { OnErr result (Rose (O.faults out.old) (O.faults out.new)) }
 {
+    let mut room = StepRoom::new(machine.cpu());
     while machine.step() < n {
-        match step_on(machine, script, from, only, out) {
+        match step_on(machine, script, &mut room, from, only, out) {
             Err(failed) => return Err(failed),
             Ok(pause) => match pause {
                 Pause::Stopped(stop) => return Ok(Pause::Stopped(stop)),

@@ -99,7 +99,8 @@ fn steps_to_end<C: Cache, O: Sink>(
     requires begun { machine.old.step ≤ n }
     requires bound { n ≤ 2 ^ 40 }
     ensures { (image : Image) (first : State) (told : Option (List ℕ))
-        → HasPut (bare image script.now.list machine.old.frames) from (only_view only.now) first (state_of C.entries machine.old) told (O.taken out.old)
+        → HasPut (bare image script.now.list machine.old.frames) from (only_view only.now) first
+        (state_of C.entries machine.old) told (O.taken out.old)
         → TracesAs (bare image script.now.list machine.old.frames) n from (only_view only.now) first told (O.taken out.new)
         (O.faults out.old) (O.faults out.new) result }
 {

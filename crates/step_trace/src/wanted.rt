@@ -1,8 +1,10 @@
 //! Which steps' lines are printed.
 
-ghost use Rattle.std.specs.Prelude.{◌≡◌, ◌==◌};
+ghost use Rattle.std.specs.Prelude.{◌≡◌, ◌==◌, true, false, Option};
 ghost use Rattle.std.specs.List.{list_any};
+ghost use Rattle.ia32_exec.specs.declared.access.Range.{Range};
 ghost use Rattle.look_words.specs.View.{only_view};
+ghost use Rattle.step_text.specs.declared.activity.Activity.{Activity};
 ghost use Rattle.step_trace.specs.Wanted as spec;
 
 use ia32_exec::Range;
@@ -45,5 +47,16 @@ pub fn wants(only: &Only, does: Activity, eip: u32, written: Option<Range>) -> b
         Only::Each => true,
         Only::At(addresses) => begins_instruction(does) && is_among(eip, addresses.as_slice()),
         Only::On { address, len } => meets(*address, *len, written),
+    }
+}
+
+/// Whether EIP alone tells that the line of a step isn't asked for.
+#[tactic(auto, unfolding(crate::specs::Wanted::wants))]
+pub fn is_passed_by(only: &Only, eip: u32) -> bool
+    ensures { result ≡ true → (does : Activity) (written : Option Range) → spec.wants (only_view only.now) does eip written ≡ false }
+{
+    match only {
+        Only::Each | Only::On { .. } => false,
+        Only::At(addresses) => !is_among(eip, addresses.as_slice()),
     }
 }

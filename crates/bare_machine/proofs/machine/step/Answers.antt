@@ -7,6 +7,8 @@ use Rattle.machine_step.specs.Worked.{whats, completed_by, dropping, went_as}
 use Rattle.bare_machine.specs.Buffered.{LedTo, kept_by}
 use Rattle.bare_machine.specs.Machine.{state_of, Goes}
 use Rattle.bare_machine.specs.Settings.{bare}
+use Rattle.paging.specs.Space.{Space}
+use Rattle.machine_step.specs.Left.{left_of, left_from}
 use Rattle.machine_step.specs.Raised.{raised_of, raised_from}
 use Rattle.bare_machine.specs.Once.{taken_in}
 use Rattle.bare_machine.proofs.machine.step.Goals as goal
@@ -82,3 +84,12 @@ returns-in-Ok-clause-raised g c = λ image.
 pub returns-in-Err-clause-stopped_board : goal.returns-in-Err-clause-stopped_board
 returns-in-Err-clause-stopped_board g c =
     subst (λ (d : Board). c.tried-result.new.board ≡ taken_in c.args.machine.now.cpu d) c.begin.ensures.given c.in-Err.ensures.stopped
+
+pub returns-in-Err-clause-stopped_leaves : goal.returns-in-Err-clause-stopped_leaves
+unfolding left_of
+returns-in-Err-clause-stopped_leaves g c = λ image.
+    let m = c.args.machine.now in
+    let s = bare image c.args.script.now.list m.frames in
+    let b = state_of g.C.Cache.entries m in
+    let left : Space = space_at (λ _. g.C.Cache.entries m.kept.cache) c.tried-result.new.ram c.tried-result.new.state in
+    subst (λ (d : Board). left ≡ left_from s (record b { board = d })) c.begin.ensures.given (c.tried-result.ensures.leaves image c.args.script.now.list b)

@@ -28,3 +28,6 @@ returns-clause-told g c = c.step_again.ensures.sound.told
 
 pub returns-clause-few : goal.returns-clause-few
 returns-clause-few g c = omega (arith, c.step_again.ensures.sound.visits, c.step_again.ensures.sound.few)
+
+pub returns-clause-leaves : goal.returns-clause-leaves
+returns-clause-leaves g c = λ image script b. c.step_again.ensures.leaves (bare image script c.args.frames) b (record { has = refl; over = tt })

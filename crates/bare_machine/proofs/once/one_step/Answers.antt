@@ -1,15 +1,12 @@
 use Rattle.std.proofs.Common.{sym, ap, ◌∙◌}
 use Rattle.bare_mem.specs.declared.kept.Cached.{Cached}
+use Rattle.machine_step.specs.Left.{denied_page}
 use Rattle.machine_step.specs.Worked.{whats}
 use Rattle.bare_machine.specs.Machine.{state_of}
 use Rattle.bare_machine.specs.Settings.{bare}
 use Rattle.bare_machine.proofs.FitBehind.{any_image}
-use Rattle.bare_machine.proofs.NextEvents.{none_before}
 use Rattle.bare_machine.proofs.OneStep.{passes_once, fit_once}
 use Rattle.bare_machine.proofs.once.one_step.Goals as goal
-
-pub step-result-requires-clause-none : goal.step-result-requires-clause-none
-step-result-requires-clause-none g c = none_before c.args.script.now.list c.args.machine.now.step
 
 pub returns-in-Ok-clause-once : goal.returns-in-Ok-clause-once
 returns-in-Ok-clause-once g c = λ image.
@@ -22,7 +19,7 @@ returns-in-Ok-clause-once g c = λ image.
       went = goes.went;
       part = goes.part;
       all = goes.all;
-      items = c.items_of.ensures.items ∙ sym goes.items;
+      items = sym goes.items;
       raised = c.step-result.ensures.raised image;
       count = c.in-Ok.ensures.count;
       passes = passes_once (bare image c.args.script.now.list m.frames) (g.C.Cache.is_exact m.kept.cache) (state_of e m) (state_of e c.step-result.new.machine) (whats c.in-Ok.seen) goes;
@@ -39,6 +36,7 @@ pub returns-in-Err-clause-once : goal.returns-in-Err-clause-once
 returns-in-Err-clause-once g c = λ image. record {
   halts = c.in-Err.ensures.step image;
   raised = c.step-result.ensures.raised image;
+  page = c.denied_page-page.ensures c.step-result.new.machine.ram ∙ ap denied_page (c.in-Err.ensures.stopped_leaves image);
   cpu = c.in-Err.ensures.stopped_cpu;
   set = ap (λ (k : Cached g.row.C.Denot). g.C.Cache.entries k.cache) c.in-Err.ensures.stopped_kept;
   board = c.in-Err.ensures.stopped_board;

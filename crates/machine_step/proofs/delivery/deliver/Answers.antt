@@ -1,4 +1,4 @@
-use Rattle.std.proofs.Common.{[], ◌∷◌, None, refl, sym, subst}
+use Rattle.std.proofs.Common.{[], ◌∷◌, None, refl, sym, subst, ap}
 use Rattle.board.specs.declared.devices.Board.{Board}
 use Rattle.board.specs.Boards.{acknowledged}
 use Rattle.descriptors.specs.declared.cpu.Cpu.{Cpu}
@@ -9,6 +9,7 @@ use Rattle.machine_model.specs.Step.{interrupted, entered, after_delivery}
 use Rattle.machine_step.specs.Worked.{ComesTo, answer_of}
 use Rattle.machine_step.proofs.Used.{if_ok, entered_uses}
 use Rattle.std.specs.Prelude.{◌==◌}
+use Rattle.machine_step.specs.Left.{left_by}
 use Rattle.machine_step.specs.Roots.{RootsAs, EndsWith}
 use Rattle.machine_step.proofs.Rooted.{if_ok_as, ends_on, kept_roots, entered_keeps}
 use Rattle.machine_step.proofs.delivery.deliver.Goals as goal
@@ -38,3 +39,9 @@ returns-in-Ok-clause-roots g c =
     let after = c.deliver.new.cpu in
     if_ok_as (EndsWith None after) (RootsAs cpu) (answer_of c.entered.result c.entered.new.worked)
     (λ w k. kept_roots None cpu w refl (ends_on None cpu after w (entered_keeps cpu after _ _ _ _ _ (rw c.in-Ok.is at c.deliver.ensures.gives)) k)) c.entered.ensures.ends
+
+pub returns-in-Ok-clause-leaves : goal.returns-in-Ok-clause-leaves
+returns-in-Ok-clause-leaves g c = sym (ap left_by (rw c.in-Ok.is at c.deliver.ensures.gives))
+
+pub returns-in-Err-clause-leaves : goal.returns-in-Err-clause-leaves
+returns-in-Err-clause-leaves g c = sym (ap left_by c.in-Err.ensures.gives)

@@ -9,6 +9,7 @@ use Rattle.std.specs.Prelude.{Bool, ◌==◌}
 use Rattle.machine_step.specs.Roots.{RootsAs, EndsWith, KeepsRoots}
 use Rattle.sys_exec.specs.Operand.{past}
 use Rattle.machine_step.proofs.Rooted.{if_ok_as, ends_on, kept_roots, entered_keeps}
+use Rattle.machine_step.specs.Left.{left_by_gate}
 use Rattle.machine_step.specs.Raised.{raised_by_gate}
 use Rattle.machine_step.proofs.delivery.enter.Goals as goal
 
@@ -57,9 +58,22 @@ returns-in-Err-Privilege-clause-roots g c =
 
 pub returns-in-Ok-clause-raised : goal.returns-in-Ok-clause-raised
 returns-in-Ok-clause-raised g c =
-    c.entered.ensures.raised ∙ (c.requires.fresh ∙ sym (ap (raised_by_gate c.args.vector) (rw (c.in-Ok.is, c.past-worked.ensures) at c.deliver.ensures.gives)))
+    c.entered.ensures.raised ∙ (c.requires.fresh ∙ sym (ap (raised_by_gate c.args.before.now c.args.vector) (rw (c.in-Ok.is, c.past-worked.ensures) at c.deliver.ensures.gives)))
 
 pub returns-in-Err-Privilege-clause-raised : goal.returns-in-Err-Privilege-clause-raised
 returns-in-Err-Privilege-clause-raised g c =
     rw c.from.ensures at c.raise.ensures.raised
-    ∙ sym (ap (raised_by_gate c.args.vector) (rw (c.in-Err-Privilege.field-0-is, c.past-worked.ensures) at c.in-Err-Privilege.ensures.gives))
+    ∙ sym (ap (raised_by_gate c.args.before.now c.args.vector) (rw (c.in-Err-Privilege.field-0-is, c.past-worked.ensures) at c.in-Err-Privilege.ensures.gives))
+
+pub returns-in-Ok-clause-leaves : goal.returns-in-Ok-clause-leaves
+returns-in-Ok-clause-leaves g c =
+    sym (ap (left_by_gate c.args.before.now c.args.vector) (rw (c.in-Ok.is, c.past-worked.ensures) at c.deliver.ensures.gives))
+
+pub returns-in-Err-Privilege-clause-leaves : goal.returns-in-Err-Privilege-clause-leaves
+returns-in-Err-Privilege-clause-leaves g c =
+    rw c.from.ensures at c.raise.ensures.leaves
+    ∙ sym (ap (left_by_gate c.args.before.now c.args.vector) (rw (c.in-Err-Privilege.field-0-is, c.past-worked.ensures) at c.in-Err-Privilege.ensures.gives))
+
+pub returns-in-Err-Stop-clause-leaves : goal.returns-in-Err-Stop-clause-leaves
+returns-in-Err-Stop-clause-leaves g c =
+    sym (ap (left_by_gate c.args.before.now c.args.vector) (rw (c.in-Err-Stop.field-0-is, c.past-worked.ensures) at c.in-Err-Stop.ensures.gives))

@@ -1,10 +1,11 @@
-use Rattle.std.proofs.Common.{[], None, sym, subst}
+use Rattle.std.proofs.Common.{[], None, sym, subst, ap}
 use Rattle.descriptors.specs.declared.cpu.Cpu.{Cpu}
 use Rattle.event_entry.specs.declared.refusal.NotDelivered.{NotDelivered}
 use Rattle.paging.specs.Work.{Outcome}
 use Rattle.machine_model.specs.Step.{after_delivery}
 use Rattle.machine_step.specs.Worked.{ComesTo, answer_of}
 use Rattle.machine_step.proofs.Used.{if_ok, entered_uses}
+use Rattle.machine_step.specs.Left.{left_by}
 use Rattle.machine_step.specs.Roots.{EndsWith}
 use Rattle.machine_step.proofs.Rooted.{if_ok_as, ends_on, entered_keeps}
 use Rattle.machine_step.proofs.delivery.raise.Goals as goal
@@ -27,3 +28,9 @@ returns-in-Ok-clause-ends g c =
     let after = c.deliver.new.cpu in
     if_ok_as (EndsWith None after) (EndsWith None cpu) (answer_of c.entered.result c.entered.new.worked)
     (λ w k. ends_on None cpu after w (entered_keeps cpu after _ _ _ _ _ (rw c.in-Ok.is at c.deliver.ensures.gives)) k) c.entered.ensures.ends
+
+pub returns-in-Ok-clause-leaves : goal.returns-in-Ok-clause-leaves
+returns-in-Ok-clause-leaves g c = sym (ap left_by (rw (c.in-Ok.is, c.code_of-code.ensures) at c.deliver.ensures.gives))
+
+pub returns-in-Err-clause-leaves : goal.returns-in-Err-clause-leaves
+returns-in-Err-clause-leaves g c = sym (ap left_by (rw c.code_of-code.ensures at c.in-Err.ensures.gives))

@@ -4,6 +4,7 @@ use Rattle.machine_model.specs.Step.{by_op}
 use Rattle.machine_step.specs.Worked.{ComesTo, answer_of}
 use Rattle.machine_step.proofs.Used.{on_err}
 use Rattle.machine_model.specs.Taken.{is_write, is_control_3}
+use Rattle.machine_step.specs.Left.{left_by_op}
 use Rattle.machine_step.specs.Raised.{raised_by_op}
 use Rattle.machine_step.proofs.instruction.carry_out_at.Goals as goal
 
@@ -40,3 +41,15 @@ pub returns-in-Int3-clause-raised : goal.returns-in-Int3-clause-raised
 returns-in-Int3-clause-raised g c =
     let a = c.args in
     subst (λ (o : Op). c.enter-in-Int3.new.worked.raised ≡ raised_by_op o a.worked.now.cpu a.insn.now a.len (g.M.GuestMem.space a.mem.now)) (sym c.in-Int3.is) c.enter-in-Int3.ensures.raised
+
+pub returns-in-Int-clause-leaves : goal.returns-in-Int-clause-leaves
+returns-in-Int-clause-leaves g c =
+    let a = c.args in
+    let s = g.M.GuestMem.space a.mem.now in
+    subst (λ (o : Op). g.M.GuestMem.space c.enter.new.mem ≡ left_by_op o a.worked.now.cpu a.insn.now a.len s) (sym c.in-Int.is) c.enter.ensures.leaves
+
+pub returns-in-Int3-clause-leaves : goal.returns-in-Int3-clause-leaves
+returns-in-Int3-clause-leaves g c =
+    let a = c.args in
+    let s = g.M.GuestMem.space a.mem.now in
+    subst (λ (o : Op). g.M.GuestMem.space c.enter-in-Int3.new.mem ≡ left_by_op o a.worked.now.cpu a.insn.now a.len s) (sym c.in-Int3.is) c.enter-in-Int3.ensures.leaves

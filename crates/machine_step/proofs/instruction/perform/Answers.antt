@@ -7,7 +7,8 @@ use Rattle.machine_step.specs.Worked.{ComesTo, answer_of, completed_of, done_by}
 use Rattle.machine_step.proofs.Used.{told_uses}
 use Rattle.std.specs.Prelude.{◌==◌}
 use Rattle.machine_step.proofs.Rooted.{left, told_roots}
-use Rattle.machine_step.specs.Raised.{raised_by_effect}
+use Rattle.machine_step.specs.Left.{left_by_told}
+use Rattle.machine_step.specs.Raised.{raised_by_told}
 use Rattle.machine_step.proofs.instruction.perform.Goals as goal
 
 pub returns-clause-step : goal.returns-clause-step
@@ -32,4 +33,8 @@ follow-requires-clause-roots g c =
 
 pub returns-clause-raised : goal.returns-clause-raised
 returns-clause-raised g c =
-    c.follow.ensures.raised ∙ sym (ap (λ (told : SysEffect × Cpu × Space). raised_by_effect told.0) (rw c.requires.same at c.execute-effect.ensures.told))
+    c.follow.ensures.raised ∙ sym (ap raised_by_told (rw c.requires.same at c.execute-effect.ensures.told))
+
+pub returns-clause-leaves : goal.returns-clause-leaves
+returns-clause-leaves g c =
+    c.follow.ensures.leaves ∙ sym (ap left_by_told (rw c.requires.same at c.execute-effect.ensures.told))

@@ -7,6 +7,7 @@ use Rattle.machine_model.specs.Step.{by_interrupt, interrupt_of, unheld}
 use Rattle.machine_step.specs.Worked.{ComesTo, answer_of}
 use Rattle.std.specs.Prelude.{IfOk, ◌==◌}
 use Rattle.machine_model.specs.UsedPages.{Uses}
+use Rattle.machine_step.specs.Left.{left_unless}
 use Rattle.machine_step.specs.Raised.{raised_unless}
 use Rattle.machine_step.proofs.stepping.step_again.Goals as goal
 
@@ -28,3 +29,11 @@ returns-clause-raised g c = λ s b k.
     let m = record s { mode = mode_of a.guard; frames = a.frames } in
     subst (λ (x : Space). c.step_at.new.worked.raised ≡ raised_unless m (interrupt_of a.worked.now.cpu a.board.now) (record a.worked.now.cpu { held = false }) x)
     c.begin_again.ensures.space (c.step_at.ensures.raised m k)
+
+pub returns-clause-leaves : goal.returns-clause-leaves
+returns-clause-leaves g c = λ s b k.
+    let a = c.args in
+    let m = record s { mode = mode_of a.guard; frames = a.frames } in
+    let left : Space = space g.B.Translations a.kept.now c.step_at.new.ram c.step_at.new.state in
+    subst (λ (x : Space). left ≡ left_unless m (interrupt_of a.worked.now.cpu a.board.now) (record a.worked.now.cpu { held = false }) x)
+    c.begin_again.ensures.space (c.step_at.ensures.leaves m k)

@@ -5,6 +5,7 @@ use Rattle.machine_step.specs.Roots.{RootsAs}
 use Rattle.machine_step.specs.Worked.{ComesTo, answer_of}
 use Rattle.machine_step.proofs.Rooted.{if_ok_as, unheld_roots}
 use Rattle.machine_step.proofs.Used.{on_err}
+use Rattle.machine_step.specs.Left.{left_unless}
 use Rattle.machine_step.specs.Raised.{raised_unless}
 use Rattle.machine_step.proofs.stepping.step_over.Goals as goal
 
@@ -49,3 +50,15 @@ returns-in-Some-clause-raised g c = λ m k.
     let a = c.args in
     subst (λ (o : Option ℕ). c.deliver.new.worked.raised ≡ raised_unless m o (record a.worked.now.cpu { held = false }) (g.M.GuestMem.space a.mem.now))
     c.in-Some.ensures c.deliver.ensures.raised
+
+pub returns-in-None-clause-leaves : goal.returns-in-None-clause-leaves
+returns-in-None-clause-leaves g c = λ m k.
+    let a = c.args in
+    subst (λ (o : Option ℕ). g.M.GuestMem.space c.work.new.mem ≡ left_unless m o (record a.worked.now.cpu { held = false }) (g.M.GuestMem.space a.mem.now))
+    c.in-None.ensures (c.work.ensures.leaves m k)
+
+pub returns-in-Some-clause-leaves : goal.returns-in-Some-clause-leaves
+returns-in-Some-clause-leaves g c = λ m k.
+    let a = c.args in
+    subst (λ (o : Option ℕ). g.M.GuestMem.space c.deliver.new.mem ≡ left_unless m o (record a.worked.now.cpu { held = false }) (g.M.GuestMem.space a.mem.now))
+    c.in-Some.ensures c.deliver.ensures.leaves

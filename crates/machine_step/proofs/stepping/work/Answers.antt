@@ -6,6 +6,8 @@ use Rattle.machine_step.specs.Worked.{ComesTo, answer_of}
 use Rattle.machine_step.proofs.Fetched.{works_on}
 use Rattle.machine_step.proofs.Used.{if_ok_on, on_err}
 use Rattle.machine_step.specs.Raised.{raised_by_fetch}
+use Rattle.machine_step.specs.Left.{left_by_fetch}
+use Rattle.machine_step.proofs.Leaving.{leaves_on, leaves_nowhere, leaves_halted}
 use Rattle.machine_step.proofs.Raising.{raises_on, raises_nowhere, raises_halted}
 use Rattle.machine_step.proofs.stepping.work.Goals as goal
 
@@ -65,3 +67,24 @@ pub returns-then-not-well-clause-raised : goal.returns-then-not-well-clause-rais
 returns-then-not-well-clause-raised g c = λ m k.
     c.requires.fresh
     ∙ sym (raises_nowhere m c.args.worked.now.cpu (g.M.GuestMem.space c.args.mem.now) c.if-worked.false (sym (c.stands_well-well.ensures m k) ∙ c.if-not-well.true))
+
+pub returns-in-Ok-Insn-clause-leaves : goal.returns-in-Ok-Insn-clause-leaves
+returns-in-Ok-Insn-clause-leaves g c = λ m k.
+    let cpu = c.args.worked.now.cpu in
+    let goes = leaves_on m cpu (g.M.GuestMem.space c.args.mem.now) c.if-worked.false (sym (c.stands_well-well.ensures m k) ∙ c.if-not-well.false)
+    ∙ ap (left_by_fetch cpu) (rw c.in-Ok-Insn.field-0-is at c.in-Ok-Insn.ensures.fetched) in
+    c.carry_out_at.ensures.leaves ∙ sym goes
+
+pub returns-in-Err-clause-leaves : goal.returns-in-Err-clause-leaves
+returns-in-Err-clause-leaves g c = λ m k.
+    let cpu = c.args.worked.now.cpu in
+    let goes = leaves_on m cpu (g.M.GuestMem.space c.args.mem.now) c.if-worked.false (sym (c.stands_well-well.ensures m k) ∙ c.if-not-well.false)
+    ∙ ap (left_by_fetch cpu) c.in-Err.ensures.fetched in
+    c.refuse_at.ensures.leaves ∙ sym goes
+
+pub returns-then-worked-clause-leaves : goal.returns-then-worked-clause-leaves
+returns-then-worked-clause-leaves g c = λ m k. sym (leaves_halted m c.args.worked.now.cpu (g.M.GuestMem.space c.args.mem.now) c.if-worked.true)
+
+pub returns-then-not-well-clause-leaves : goal.returns-then-not-well-clause-leaves
+returns-then-not-well-clause-leaves g c = λ m k.
+    sym (leaves_nowhere m c.args.worked.now.cpu (g.M.GuestMem.space c.args.mem.now) c.if-worked.false (sym (c.stands_well-well.ensures m k) ∙ c.if-not-well.true))

@@ -1,4 +1,4 @@
-use Rattle.std.proofs.Common.{◌≡◌, ℕ, Ok, Err, subst}
+use Rattle.std.proofs.Common.{ℕ, subst}
 use Rattle.run_trace.specs.declared.items.End.{End}
 use Rattle.look_words.specs.View.{only_view}
 use Rattle.bare_machine.specs.Ending.{EndsAs}

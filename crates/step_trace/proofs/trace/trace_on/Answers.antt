@@ -1,6 +1,6 @@
-use Rattle.std.proofs.Common.{◌≡◌, ℕ, ◌+◌, ◌≤◌, Ok, Err, sym, ◌∙◌, subst, arith}
+use Rattle.std.proofs.Common.{ℕ, sym, subst, arith}
 use Rattle.run_trace.specs.declared.items.End.TheVariants as end
-use Rattle.run_trace.specs.declared.pause.Pause.TheVariants.{Reached, Stopped}
+use Rattle.run_trace.specs.declared.pause.Pause.TheVariants.{Stopped}
 use Rattle.look_words.specs.View.{only_view}
 use Rattle.bare_machine.specs.Ending.{EndsAs}
 use Rattle.bare_machine.specs.Machine.{state_of}
