@@ -25,7 +25,7 @@ pub enum ValuePlace {
 #[derive(Drop)]
 pub enum Partial {
     Nothing,
-    /// The same, where the argument may be absent.
+    /// Nothing has been read, and the argument may be absent.
     Absent,
     Percent,
     Dollar,

@@ -38,7 +38,7 @@ pub enum StatementState {
         section: Name,
         end: usize,
     },
-    /// The same, after a comma.
+    /// A change to a named section after a comma, which its flags follow.
     Flags {
         line: u32,
         name: Name,

@@ -1,9 +1,8 @@
 pub mod Steps
 pub mod Searches
-pub mod Numbers
+pub mod Words
 pub mod Readings
 pub mod Lines
 pub mod Saves
 pub mod Forms
-pub mod Sayings
 pub mod QuietSteps

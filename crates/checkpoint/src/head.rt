@@ -77,7 +77,7 @@ pub struct Head {
     /// Bytes without a name.
     pub unnamed: [u8; 14],
     pub board: [u8; 64],
-    /// The same after the board.
+    /// Bytes without a name after the board.
     pub rest: [u8; 64],
 }
 

@@ -30,7 +30,9 @@ pub fn object_causes_are_conditions()
         ↔ ((at : ℕ) → IsBadObject bytes cause at → ⊥) }
 {}
 
-/// The same of an image.
+/// A file is wrong as an image by a cause, at a place, exactly where the condition of that cause
+/// has its lowest place there, or, of the parts that pass the end, the first begins there. It is
+/// not wrong by it exactly where the condition holds at no place.
 pub fn image_causes_are_conditions()
     ensures exact { (bytes : List ℕ) (cause : ElfCause) (at : ℕ) → (wrong_image bytes cause ≡ Some at)
         ↔ HasPlace (IsBadImage bytes) bytes cause at }
@@ -45,7 +47,8 @@ pub fn objects_refused_in_order()
         ↔ IsRefusedObject bytes at cause }
 {}
 
-/// The same of an image.
+/// A file is refused as an image, by a cause and at a place, exactly where the cause has this
+/// place and the condition of none that comes before it holds at any.
 pub fn images_refused_in_order()
     ensures { (bytes : List ℕ) (at : ℕ) (cause : ElfCause) → (image_in bytes ≡ no_image at cause)
         ↔ IsRefusedImage bytes at cause }

@@ -35,7 +35,7 @@ pub static GCC_OBJECT: [u8; 672] = [
 /// these two with four NOPs after it.
 pub const WORKED_TEXT: &[u8] = b"\xBA\xF8\x03\0\0\xB0\x48\xEE\x90\x90\x90\x90\xF4\x90\x90\x90\x90";
 
-/// The same with the end of an image after it.
+/// The worked example's text with the end of an image after it, a jump to itself.
 pub const WORKED_ENDED: &[u8] =
     b"\xBA\xF8\x03\0\0\xB0\x48\xEE\x90\x90\x90\x90\xF4\x90\x90\x90\x90\xEB\xFE";
 

@@ -1,9 +1,8 @@
 pub mod Wide
 pub mod AnsweredBy
-pub mod Cuts
+pub mod Words
 pub mod Sums
 pub mod Readings
-pub mod Sayings
 pub mod Walks
 pub mod Tags
 pub mod Puts

@@ -1,7 +1,6 @@
 pub mod Bounds
 pub mod Schedules
 pub mod Texts
-pub mod Cuts
 pub mod Reads
 pub mod Lines
 pub mod Tags

@@ -2,7 +2,7 @@
 use Rattle.std.specs.Prelude.{◌≡◌, ℕ, suc, ◌+◌, ◌<◌, Bool, true, false, ◌&&◌, ◌==◌, List, [], ◌∷◌, ◌++◌, length, drop, Option, Some, None, is_some, if◌then◌else◌}
 use Rattle.std.specs.List.{flat_map, list_any}
 use Rattle.ia32_types.specs.declared.stop.Stop.{Stop}
-use Rattle.board.specs.Texts.{cut_at}
+use Rattle.text_lines.specs.Cuts.{cut_at}
 use Rattle.run_trace.specs.declared.items.End.{End}
 use Rattle.run_trace.specs.declared.items.End.TheVariants.{Bound, Stopped}
 use Rattle.run_trace.specs.declared.items.Ended.{Ended}

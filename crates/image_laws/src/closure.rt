@@ -37,7 +37,7 @@ pub fn ways_on()
         ⊎ ((site : Site) × (place_of image at ≡ Inside site) × (site.at ≡ at)) }
 {}
 
-/// The same as linear addresses, by the sums that an instruction makes.
+/// Where control goes from an instruction, as linear addresses, by the sums that an instruction makes.
 pub fn addresses()
     ensures next { (image : Image) → IsAccepted image → (s : Swept) → Contains (swept_of image.text) s
         → (linear s.at + s.len) % 2 ^ 32 ≡ linear (s.at + s.len) }

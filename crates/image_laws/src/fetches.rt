@@ -29,7 +29,7 @@ pub fn fetching()
         → n < s.len → decoded (part (patched image.text 0 image.sites) s.at n) ≡ answer.Short }
 {}
 
-/// The same of a memory in which the text stands.
+/// What is fetched of an instruction from a memory in which the text stands.
 pub fn fetching_from_text()
     ensures whole { (image : Image) → IsAccepted image → (m : List ℕ) (at : ℕ)
         → part m at (length image.text) ≡ image.text → (s : Swept) → Contains (swept_of image.text) s → (n : ℕ)
@@ -39,7 +39,7 @@ pub fn fetching_from_text()
         → n < s.len → decoded (part m (at + s.at) n) ≡ answer.Short }
 {}
 
-/// The same of a memory in which the patched text stands, outside sites and at a site.
+/// What is fetched of an instruction from a memory in which the patched text stands, outside sites and at a site.
 pub fn fetching_from_patched()
     ensures whole { (image : Image) → IsAccepted image → (m : List ℕ) (at : ℕ)
         → part m at (length image.text) ≡ patched image.text 0 image.sites → (s : Swept) → StandsOutside image s

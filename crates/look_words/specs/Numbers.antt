@@ -1,7 +1,6 @@
 -- Numbers in words.
 use Rattle.std.specs.Prelude.{ℕ, ◌+◌, ◌*◌, ◌-◌, ◌^◌, ◌==◌, ◌&&◌, nat_lt, nat_le, Bool, List, [], ◌∷◌, length, Option, Some, None, option_and_then, option_map, if◌then◌else◌}
-use Rattle.board.specs.Texts.{hex_value}
-use Rattle.pv_words.specs.NumberWords.{number_said}
+use Rattle.text_lines.specs.Numbers.{hex_value, number_said}
 
 -- ---- a linear address
 

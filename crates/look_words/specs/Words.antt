@@ -1,6 +1,6 @@
 -- The forms of `look`.
 use Rattle.std.specs.Prelude.{ℕ, ◌^◌, ◌&&◌, List, [], ◌∷◌, codes, bytes_eq, Option, Some, None, option_map, option_and_then, if◌then◌else◌}
-use Rattle.pv_words.specs.NumberWords.{number_said}
+use Rattle.text_lines.specs.Numbers.{number_said}
 use Rattle.pv_words.specs.Words.{is_name}
 use Rattle.look_words.specs.Numbers.{address_said, len_said, steps_said, addresses_said}
 

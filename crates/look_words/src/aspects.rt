@@ -8,7 +8,8 @@ ghost use Rattle.look_words.specs.View.{aspect_view, only_view, IsAspect};
 use crate::lists::addresses;
 use crate::numbers::address;
 use crate::words::{Aspect, Only};
-use pv_words::{is_word, number};
+use pv_words::is_word;
+use text_lines::number;
 
 fn len(word: &[u8], most: u64) -> Option<u64>
     requires { most ≤ 2 ^ 40 }

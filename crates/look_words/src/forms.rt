@@ -9,7 +9,8 @@ use crate::aspects::{aspect, only};
 use crate::lists::steps;
 use crate::words::{Aspect, LookWords, LookedRun, Only, Steps};
 use arrayvec::ArrayVec;
-use pv_words::{is_name, is_word, number};
+use pv_words::{is_name, is_word};
+use text_lines::number;
 
 /// The form that the words are, if they are one.
 #[tactic(auto, unfolding(crate::specs::Words::form_of))]

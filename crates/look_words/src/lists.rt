@@ -7,7 +7,7 @@ ghost use Rattle.look_words.specs.View.{AreSteps};
 use crate::numbers::address;
 use crate::words::{Addresses, Steps};
 use arrayvec::ArrayVec;
-use pv_words::number;
+use text_lines::number;
 
 /// There are 1 to 64 words.
 fn is_count(words: &[String]) -> bool

@@ -1,20 +1,9 @@
 //! Linear addresses in words.
 
-ghost use Rattle.std.specs.Prelude.{◌≡◌, ◌<◌, IfSome};
-ghost use Rattle.board.specs.Texts.{hex_value};
+ghost use Rattle.std.specs.Prelude.{◌≡◌};
 ghost use Rattle.look_words.specs.Numbers.{hex_said, after_prefix, address_said};
 
-fn hex_value(b: u8) -> Option<u8>
-    ensures value { result ≡ hex_value b }
-    ensures bound { IfSome result (λ n. n < 16) }
-{
-    match b {
-        b'0'..=b'9' => Some(b - 48),
-        b'A'..=b'F' => Some(b - 55),
-        b'a'..=b'f' => Some(b - 87),
-        _ => None,
-    }
-}
+use text_lines::hex_value;
 
 fn hex_number(digits: &[u8]) -> Option<u32>
     ensures { result ≡ hex_said 0 digits.now }

@@ -67,7 +67,7 @@ fn lay(rt: &impl Abort, ram: &mut Ram, from: &Ram, image: &Checked)
     ram.put(TEXT_AT, image.text());
 }
 
-/// The same, with a pool of the frames after them.
+/// Lays the guest's frames into a memory so, and makes a pool of the frames after them.
 fn lay_with_pool(rt: &impl Abort, ram: &mut Ram, from: &Ram, image: &Checked) -> Pool
     ensures len { length ram.new ≡ 10485760 }
     ensures short { length image.now.text ≤ 4096 }

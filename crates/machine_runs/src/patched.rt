@@ -71,7 +71,7 @@ fn is_left(rt: &impl Abort, alloc: Global, left: &Left) -> bool {
     )
 }
 
-/// The same memory of the bare machine, after that kernel's copy.
+/// The memory of the bare machine where that kernel copies to, after its copy.
 fn bare_memory(rt: &impl Abort, alloc: Global) -> Vec<u8> {
     let image = image_of(rt, alloc, COPIES_WITHIN_A_STALE_PAGE);
     let bare = bare_after(rt, alloc, &image, 9);

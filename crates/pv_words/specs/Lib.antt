@@ -1,3 +1,2 @@
-pub mod NumberWords
 pub mod Words
 pub mod View

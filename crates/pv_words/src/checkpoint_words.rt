@@ -1,13 +1,13 @@
 //! The forms of checkpoints.
 
 ghost use Rattle.std.specs.Prelude.{◌≡◌, ◌≤◌, ◌^◌, map, string_bytes, option_map, IfSome};
-ghost use Rattle.pv_words.specs.NumberWords.{number_said};
+ghost use Rattle.text_lines.specs.Numbers.{number_said};
 ghost use Rattle.pv_words.specs.Words.{after_save, after_continue, mode_said, rest_form, save_form, save_from_form, continue_form};
 ghost use Rattle.pv_words.specs.View.{command_view, run_view, rest_view, AreWithin, IsWithin};
 
 use crate::mode::RunMode;
-use crate::number_words::number;
 use crate::words::{CommandWords, RestWords, RunWords, is_name, is_word, run_words};
+use text_lines::number;
 
 /// The machine that a word names.
 fn machine(word: &str) -> Option<RunMode>

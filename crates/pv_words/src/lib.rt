@@ -4,10 +4,8 @@
 mod certificate_words;
 mod checkpoint_words;
 mod mode;
-mod number_words;
 mod share_words;
 mod words;
 
 pub use mode::RunMode;
-pub use number_words::number;
 pub use words::{CommandWords, RestWords, RunWords, ShareWords, form, is_name, is_word};

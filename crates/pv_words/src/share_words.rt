@@ -4,8 +4,8 @@ ghost use Rattle.std.specs.Prelude.{◌≡◌, map, string_bytes, option_map, If
 ghost use Rattle.pv_words.specs.Words.{after_share, makes_pairs};
 ghost use Rattle.pv_words.specs.View.{command_view, IsWithin};
 
-use crate::number_words::number;
 use crate::words::{CommandWords, ShareWords, are_names, is_name};
+use text_lines::number;
 
 /// A schedule, the number of frames, and one to four images, each with its script.
 #[tactic(auto, unfolding(crate::specs::Words::after_share))]

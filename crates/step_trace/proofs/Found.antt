@@ -1,6 +1,5 @@
 -- The lines by what was found before a step are those of the step.
-use Rattle.std.proofs.Common.{◌≡◌, ℕ, ◌<◌, nat_le, ◌&&◌, Bool, true, false, List, [], Option, Some, None, IfSome, refl, sym, ap, ◌∙◌, if◌then◌else◌}
-use Rattle.std.proofs.lemmas.Bool.{lt-leb}
+use Rattle.std.proofs.Common.{◌≡◌, ℕ, nat_le, ◌&&◌, Bool, true, false, List, [], Option, Some, None, IfSome, refl, sym, ap, ◌∙◌, if◌then◌else◌}
 use Rattle.descriptors.specs.declared.cpu.Cpu.{Cpu}
 use Rattle.ia32_exec.specs.declared.access.Range.{Range}
 use Rattle.linear_view.specs.declared.range.Places.{Places}
@@ -107,6 +106,3 @@ not_wanted only does eip range None f = f
 not_wanted Each does eip range (Some raised) f = f
 not_wanted (At addresses) does eip range (Some raised) f = f
 not_wanted (On address len) does eip range (Some raised) f = refl
-
-pub not_yet : (from step : ℕ) (b : Bool) → step < from → (nat_le from step && b) ≡ false
-not_yet from step b lt = let f : nat_le from step ≡ false = lt-leb _ _ lt in rw f refl

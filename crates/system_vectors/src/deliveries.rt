@@ -223,7 +223,7 @@ fn taken(case: Case, then: u32) -> Case {
     case
 }
 
-// The same with an error code below the frame.
+// A delivery that succeeds, with an error code below the frame, and with the flags in the handler.
 fn taken_with(case: Case, code: u32, then: u32) -> Case {
     let at = if case.cpu.cpl == 3 { 0x6EE8 } else { 0x6FF0 };
     let mut case = taken(case, then);

@@ -16,7 +16,7 @@ use xlate_buffer::Buffer;
 enum Comes {
     /// EIP goes on by so many bytes, and nothing is seen.
     Goes(u32),
-    /// The same with this byte written to port 0x80.
+    /// EIP goes on by so many bytes, and this byte is written to port 0x80.
     Writes(u32, u8),
     Stops(Stop),
 }

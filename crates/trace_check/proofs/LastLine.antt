@@ -10,7 +10,7 @@ use Rattle.std.specs.Char.{is_ascii_digit}
 use Rattle.std.proofs.lemmas.List.{drop_all, length-drop, drop_more}
 use Rattle.std.proofs.lemmas.Bool.{lt-ltb, le-ltb, lt-leb, le-leb}
 use Rattle.std.proofs.lemmas.List.Sums.{sum_by-cons}
-use Rattle.board.specs.Texts.{decimal_after}
+use Rattle.text_lines.specs.Numbers.{decimal_after}
 use Rattle.trace_check.specs.Lines.{lines, begun_by, last_of, before_last, steps_told, stop_told, monitor_stops}
 use Rattle.trace_check.specs.Matches.{line_behind}
 use Rattle.trace_check.specs.Tells.{IsLastLine}

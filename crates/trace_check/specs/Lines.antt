@@ -7,7 +7,7 @@ use Rattle.ia32_types.specs.declared.stop.Stop.{Stop}
 use Rattle.ia32_types.specs.declared.stop.Stop.TheVariants as stops
 use Rattle.run_trace.specs.declared.items.End.TheVariants.{Stopped}
 use Rattle.run_trace.specs.Text.{end_line}
-use Rattle.board.specs.Texts.{decimal_after}
+use Rattle.text_lines.specs.Numbers.{decimal_after}
 
 -- a byte in front of the first line
 abbrev pub begun_by : ℕ → List (List ℕ) → List (List ℕ)

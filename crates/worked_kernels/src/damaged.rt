@@ -6,7 +6,8 @@ pub const CUT_OBJECTS: &str = "\
 52 612 refused 40 object 0 at 212
 ";
 
-/// The same that `check` prints. The program headers begin at 52, and the section table ends the file at 8,496.
+/// The lengths of an image from one up to another, and the line that `check` prints. The program headers begin at 52, and
+/// the section table ends the file at 8,496.
 pub const CUT_IMAGES: &str = "\
 0 52 refused 40 at 0
 52 116 refused 40 at 52
@@ -79,8 +80,8 @@ pub const OBJECT_FIELDS: &str = "\
 528 47 528
 ";
 
-/// The same of an image. The program headers at 52 and 84; the section headers: null at 8,256, .text at 8,296, .data at 8,336, .bss
-/// at 8,376, .pv_sites at 8,416, .shstrtab at 8,456.
+/// A field, the cause by which the image is refused where it is 0xFFFFFFFF, and the place printed. The program headers at 52 and
+/// 84; the section headers: null at 8,256, .text at 8,296, .data at 8,336, .bss at 8,376, .pv_sites at 8,416, .shstrtab at 8,456.
 pub const IMAGE_FIELDS: &str = "\
 20 44 20
 24 64 0

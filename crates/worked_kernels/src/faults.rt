@@ -218,7 +218,7 @@ $ held P
 $ lost Q
 ";
 
-/// The same of commands that save what is reached, or go on from what was saved.
+/// What the sink takes of commands that save what is reached, or go on from what was saved, by the put that fails.
 pub const SAVED_PUTS: &str = "\
 $ build
 _start: movl $0x3f8,%edx; movb $0x48,%al; outb %al,%dx; hlt

@@ -55,7 +55,8 @@ pub const HEAD: &str = "\
 96 10 00 00 00 08 00 00 00 10 00 00 00 10 00 00 00
 ";
 
-/// The same after these: of the board, of which all other bytes are 0, and where the memory begins that holds the text.
+/// What stands in C after these: an offset and bytes of the board, of which all others are 0, and of the memory where the text
+/// begins.
 pub const BEHIND_HEAD: &str = "\
 132 ff
 139 ff

@@ -29,7 +29,8 @@ movl 0x11400000,%eax
 outl %eax,$0x80
 ";
 
-/// The same for a page whose place in the TLB of the bare machine, its number modulo 64, no other page of the kernel has.
+/// A page is read, changed to another frame and read again, as above. Its place in the TLB of the bare machine, its number
+/// modulo 64, no other page of the kernel has.
 pub const READS_A_STALE_PAGE_ALONE: &str = "\
 movl $1,0xC0400000
 movl $2,0xC0401000

@@ -43,8 +43,8 @@ yes|3 65536 0
 yes|3 0 1
 ";
 
-/// The same of the kernel with a large page, whose PDE is written in step 4 and walked in step 5: it has no PTE,
-/// so its accessed flag is the only one.
+/// What is said by one entry of the text of the kernel with a large page, whose PDE is written in step 4 and walked in
+/// step 5: it has no PTE, so its accessed flag is the only one.
 const LARGE_ENTRIES: &str = "\
 no entry 0|4 70656 2
 no entry 0|5 70656 2

@@ -79,7 +79,7 @@ fn refuses(rt: &impl Abort, alloc: Global, files: &mut MemFiles, bytes: &[u8], p
     is_so(rt, printed, number == 3 && same);
 }
 
-/// The same with another byte at an offset, which is there from here on.
+/// Over these bytes with another byte at an offset, which is there from here on, a run doesn't go on, and this is printed.
 fn refuses_with(
     rt: &impl Abort,
     alloc: Global,

@@ -55,7 +55,7 @@ fn host_of(
     host
 }
 
-/// The same of the run of a source.
+/// Runs the image of a source so, and watches the host.
 fn watched(rt: &impl Abort, alloc: Global, source: &[u8], run: &str, lines: &[u8]) -> Watched {
     let mut files = built(rt, alloc, source);
     host_of(rt, alloc, &mut files, run, lines)

@@ -47,7 +47,7 @@ fn follow_lines(rt: &impl Abort, alloc: Global, files: &mut MemFiles, action: &s
     is_so(rt, action, does(rt, alloc, files, action, &lines));
 }
 
-/// The same over no files, and what is held after it.
+/// Does the actions of a session over no files; the files that are held after it.
 pub fn follow(rt: &impl Abort, alloc: Global, session: &str) -> MemFiles {
     let mut files = no_files(rt, alloc);
     follow_over(rt, alloc, &mut files, session);
@@ -171,7 +171,7 @@ fn prints(
         && out.faults() == u64::from(number == 6)
 }
 
-/// The same with a put that fails and a status that stand before the command.
+/// Does a command, before which a put that fails and a status stand: it returns this status, and prints exactly these lines.
 fn is_cut(rt: &impl Abort, alloc: Global, files: &mut MemFiles, rest: &str, lines: &str) -> bool {
     let (put, rest) = split(rt, rest);
     let (status, command) = split(rt, rest);

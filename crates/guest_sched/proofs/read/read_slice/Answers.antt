@@ -1,7 +1,7 @@
 use Rattle.std.proofs.Common.{◌∙◌, sym, ap, ◌+◌, ◌-◌, List, ℕ, ◌∷◌, length, take, drop}
 use Rattle.std.proofs.lemmas.List.{take_rest}
-use Rattle.board.specs.Texts.{cut_at}
-use Rattle.guest_sched.proofs.Cuts.{three_words}
+use Rattle.text_lines.specs.Cuts.{cut_at}
+use Rattle.guest_sched.proofs.Words.{three_words}
 use Rattle.guest_sched.proofs.read.read_slice.Goals as goal
 
 pub returns-in-Some-first_cut-clause-slice : goal.returns-in-Some-first_cut-clause-slice

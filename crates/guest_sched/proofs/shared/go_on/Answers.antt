@@ -5,7 +5,7 @@ use Rattle.run_trace.specs.Text.{end_line}
 use Rattle.run_trace.specs.declared.items.End.{End}
 use Rattle.run_trace.specs.declared.items.End.TheVariants as end
 use Rattle.run_trace.specs.declared.pause.Pause.{Pause}
-use Rattle.run_trace.specs.declared.pause.Pause.TheVariants.{Reached, Stopped}
+use Rattle.run_trace.specs.declared.pause.Pause.TheVariants.{Reached}
 use Rattle.run_trace.proofs.Pauses.{reached_so}
 use Rattle.wedge_step.specs.Scene.{scene}
 use Rattle.wedge_core.specs.Calls.{GuestLeaves}
