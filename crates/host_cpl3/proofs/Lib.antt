@@ -8,3 +8,4 @@ pub mod Writing
 pub mod Budgets
 pub mod Crossing
 pub mod Nothing
+pub mod Insensitive

@@ -1,6 +1,9 @@
 -- The ranges of an instruction.
-use Rattle.std.specs.Prelude.{ℕ, ◌+◌, ◌-◌, ◌*◌, ◌/◌, ◌^◌, List, Bool, ◌==◌, not, nat_le, Option, Some, None, if◌then◌else◌}
+use Rattle.std.specs.Prelude.{◌≡◌, ℕ, ◌+◌, ◌-◌, ◌*◌, ◌/◌, ◌^◌, List, Bool, ◌==◌, true, false, not, nat_le, Option, Some, None, Ok, if◌then◌else◌}
+use Rattle.ia32_types.specs.declared.flags.Regs.{Regs}
+use Rattle.ia32_types.specs.declared.insn.Insn.{Insn}
 use Rattle.ia32_exec.specs.declared.access.Range.{Range}
+use Rattle.ia32_exec.specs.Effect.{ranges_of}
 use Rattle.host_cpl3.specs.declared.view.View.{View}
 use Rattle.host_cpl3.specs.declared.exit.Exit.TheVariants as exits
 use Rattle.host_cpl3.specs.Met.{Met, ◌>>=◌, gives, unless}
@@ -36,3 +39,10 @@ access_met m v write None = gives tt
 access_met m v write (Some r) = do
   _ ← range_met m v write r
   gives tt
+
+-- nothing denies the instruction its ranges
+pub record AreMet (v : View) (m : List ℕ) (r : Regs) (insn : Insn) : Type 0 where
+  pub read_segment : segment_met v (ranges_of insn r).read ≡ Ok tt
+  pub write_segment : segment_met v (ranges_of insn r).write ≡ Ok tt
+  pub read : access_met m v false (ranges_of insn r).read ≡ Ok tt
+  pub write : access_met m v true (ranges_of insn r).write ≡ Ok tt

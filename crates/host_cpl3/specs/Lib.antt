@@ -14,3 +14,4 @@ pub mod KeptWalks
 pub mod RunsTo
 pub mod Borders
 pub mod Walked
+pub mod Insensitive

@@ -33,6 +33,14 @@ abbrev pub IsOf : Option Range → Reach → Type 0
 IsOf None x = x.len ≡ 0
 IsOf (Some r) x = (x.at ≡ r.at) × (x.len ≡ r.len)
 
+-- where this range leads, or nothing
+abbrev pub Leads : List ℕ → ℕ → Option Range → Reach → Type 0
+Leads m root range x = IsReach m root x × IsOf range x
+
+-- of no bytes
+abbrev pub IsNone : List ℕ → ℕ → Reach → Type 0
+IsNone m root x = IsReach m root x × (x.len ≡ 0)
+
 -- an address that may be read
 pub record IsRead (m : List ℕ) (root : ℕ) (x y : Reach) (at : ℕ) : Type 0 where
   pub space : at < 2 ^ 32
@@ -43,11 +51,6 @@ pub record IsRead (m : List ℕ) (root : ℕ) (x y : Reach) (at : ℕ) : Type 0 
 pub record IsWritten (n : ℕ) (x : Reach) (at : ℕ) : Type 0 where
   pub space : at < 2 ^ 32
   pub inside : placed x at < n
-
--- a part of the work passed, or ended at that exit
-abbrev pub passes : {A : Type 0} → Result A Exit → Met (Unit {0})
-passes (Ok x) = Ok tt
-passes (Err exit) = Err exit
 
 -- with the registers that were left in place
 abbrev pub completion : Ending → Regs → Completion

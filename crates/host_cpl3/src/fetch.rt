@@ -21,19 +21,22 @@ fn fetch_over(
     root: u32,
     eip: u32,
     front: &[u8],
-) -> Result<Decoded, Exit>
+    begun: &mut Decoded,
+) -> Result<(), Exit>
     requires root { 4096 * root < length ram.now }
     requires kept { AreKept walks.old ram.now root }
     requires few { length front.now ≤ 11 }
-    ensures fetched { result ≡ fetched_by ram.now root eip front.now Short }
-    ensures spelled { IfOk result IsSpelled }
+    ensures fetched { MatchResult result (λ _. fetched_by ram.now root eip front.now Short ≡ Ok begun.new)
+        (λ exit. fetched_by ram.now root eip front.now Short ≡ Err exit) }
+    ensures spelled { OnOk result (IsSpelled begun.new) }
     ensures kept { AreKept walks.new ram.now root }
 {
     match next_page(eip) {
         None => Err(Exit::Wrap),
         Some(next) => {
             let more = fetching(walks, ram, root, next, LONGEST)?;
-            Ok(decode_joined(front, more))
+            *begun = decode_joined(front, more);
+            Ok(())
         }
     }
 }
@@ -59,11 +62,7 @@ pub fn fetch_whole(
     ensures kept { AreKept walks.new ram.now root }
 {
     match begun {
-        Decoded::Short => {
-            let whole = fetch_over(walks, ram, root, eip, front)?;
-            *begun = whole;
-            Ok(())
-        }
+        Decoded::Short => fetch_over(walks, ram, root, eip, front, begun),
         _ => Ok(()),
     }
 }

@@ -1,10 +1,10 @@
 //! The ranges of an instruction.
 
-ghost use Rattle.std.specs.Prelude.{◌≡◌, ◌+◌, ◌*◌, ◌/◌, ◌<◌, ◌≤◌, ◌^◌, length, IfOk, Ok, Err, Some, MatchResult};
+ghost use Rattle.std.specs.Prelude.{◌≡◌, ◌+◌, ◌*◌, ◌/◌, ◌<◌, ◌≤◌, ◌^◌, length, IfOk, OnOk, Ok, Err, Some, MatchResult};
 ghost use Rattle.ia32_exec.specs.Short.{IsShort};
 ghost use Rattle.host_cpl3.specs.Access.{segment_met, pages_met, range_met, access_met, last_page};
 ghost use Rattle.host_cpl3.specs.KeptWalks.{AreKept};
-ghost use Rattle.host_cpl3.specs.Reaches.{IsReach, IsOf, passes};
+ghost use Rattle.host_cpl3.specs.Reaches.{IsNone, IsReach, IsOf};
 
 use crate::exit::Exit;
 use crate::pages::page_met;
@@ -84,26 +84,28 @@ fn reached(
     view: &View,
     write: bool,
     range: &Range,
-) -> Result<Reach, Exit>
+    reach: &mut Reach,
+) -> Result<(), Exit>
     requires root { 4096 * view.now.root < length ram.now }
     requires kept { AreKept walks.old ram.now view.now.root }
     requires short { (1 ≤ range.now.len) × (range.now.len ≤ 32) }
-    ensures met { passes result ≡ access_met ram.now view.now write (Some range.now) }
-    ensures reach { IfOk result (IsReach ram.now view.now.root) }
-    ensures range { IfOk result (IsOf (Some range.now)) }
+    ensures met { result ≡ access_met ram.now view.now write (Some range.now) }
+    ensures reach { OnOk result (IsReach ram.now view.now.root reach.new) }
+    ensures range { OnOk result (IsOf (Some range.now) reach.new) }
     ensures kept { AreKept walks.new ram.now view.now.root }
 {
     let _len = ram.len();
     let (first, last) = range_met(walks, ram, view, write, *range)?;
-    Ok(Reach {
+    *reach = Reach {
         at: range.at,
         len: range.len,
         first,
         last,
-    })
+    };
+    Ok(())
 }
 
-/// Reaches a range, if there is one.
+/// Reaches a range, if there is one. Where there is none, nothing is written to `reach`.
 #[inline(always)]
 pub fn reach(
     walks: &mut Walks,
@@ -111,17 +113,19 @@ pub fn reach(
     view: &View,
     write: bool,
     range: &Option<Range>,
-) -> Result<Reach, Exit>
+    reach: &mut Reach,
+) -> Result<(), Exit>
     requires root { 4096 * view.now.root < length ram.now }
     requires kept { AreKept walks.old ram.now view.now.root }
     requires short { IsShort range.now }
-    ensures met { passes result ≡ access_met ram.now view.now write range.now }
-    ensures reach { IfOk result (IsReach ram.now view.now.root) }
-    ensures range { IfOk result (IsOf range.now) }
+    requires none { IsNone ram.now view.now.root reach.old }
+    ensures met { result ≡ access_met ram.now view.now write range.now }
+    ensures reach { OnOk result (IsReach ram.now view.now.root reach.new) }
+    ensures range { OnOk result (IsOf range.now reach.new) }
     ensures kept { AreKept walks.new ram.now view.now.root }
 {
     match range {
-        None => Ok(Reach::none()),
-        Some(range) => reached(walks, ram, view, write, range),
+        None => Ok(()),
+        Some(range) => reached(walks, ram, view, write, range, reach),
     }
 }

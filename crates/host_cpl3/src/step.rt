@@ -1,19 +1,22 @@
 //! One instruction.
 
-ghost use Rattle.std.specs.Prelude.{◌≡◌, ◌+◌, ◌*◌, ◌<◌, ◌^◌, length, List, ℕ};
+ghost use Rattle.std.specs.Prelude.{◌≡◌, ◌+◌, ◌*◌, ◌<◌, ◌^◌, length, List, ℕ, true, Ok, Err, OnOk, IfErr};
 ghost use Rattle.ia32_rows.specs.Spells.{Spells};
 ghost use Rattle.ia32_types.specs.Shape.{IsShaped};
 ghost use Rattle.ia32_exec.specs.UserEffect.{IsUserDone, user_effect};
 ghost use Rattle.ia32_exec.specs.Effect.{ranges_of};
-ghost use Rattle.ia32_exec.specs.Short.{IsShort};
 ghost use Rattle.ia32_exec.specs.Commit.{list_of};
 ghost use Rattle.ia32_exec.specs.Outcomes.{AreStored};
 ghost use Rattle.host_cpl3.specs.Store.{all_stored};
 ghost use Rattle.host_cpl3.specs.Views.{selectors_of};
 ghost use Rattle.host_cpl3.specs.Pages.{byte_at};
 ghost use Rattle.host_cpl3.specs.KeptWalks.{AreKept};
-ghost use Rattle.host_cpl3.specs.HostStep.{is_jump, exit_of, ended, finished, accessed, worked, host_step};
-ghost use Rattle.host_cpl3.specs.Reaches.{IsReach, IsOf, IsWritten, Gives, completion, placed};
+ghost use Rattle.host_cpl3.specs.declared.exit.Exit.TheVariants as exits;
+ghost use Rattle.host_cpl3.specs.Insensitive.{is_insensitive};
+ghost use Rattle.host_cpl3.specs.HostStep.{is_jump, exit_of, ended, finished, worked, host_step};
+ghost use Rattle.host_cpl3.specs.Permit.{permitted};
+ghost use Rattle.host_cpl3.specs.Access.{AreMet};
+ghost use Rattle.host_cpl3.specs.Reaches.{IsNone, IsReach, IsOf, Leads, IsWritten, Gives, completion, placed};
 
 use crate::bytes::Bytes;
 use crate::exit::{Ending, Exit};
@@ -27,15 +30,17 @@ use crate::view::{View, is_entry, selectors_of};
 use crate::walks::Walks;
 use guest_ram::Ram;
 use ia32_decode::{Decoded, decode, front_len};
-use ia32_exec::{Outcome, Ranges, Stores, ranges, user_effect};
+use ia32_exec::{Outcome, Stores, effect, ranges, user_effect};
 use ia32_types::{Insn, Op, Regs, Stop};
 
+#[inline(always)]
 fn is_jump(op: Op) -> bool
     ensures { result ≡ is_jump op }
 {
     matches!(op, Op::Jmp | Op::Jcc | Op::JumpTo)
 }
 
+#[inline(always)]
 fn ended(view: &View, op: Op, regs: &Regs) -> Ending
     ensures { completion result regs.now ≡ ended view.now op regs.now }
 {
@@ -53,6 +58,27 @@ fn exit_of(stop: Stop) -> Exit
         Stop::FlagBits => Exit::FlagBits,
         _ => Exit::Outside,
     }
+}
+
+// An exception that an effect raises.
+fn fault(vector: u8, code: u32) -> Exit
+    ensures { result ≡ exits.Fault vector code 0 }
+{
+    Exit::Fault {
+        vector,
+        code,
+        cr2: 0,
+    }
+}
+
+// Neither a transfer through an operand, nor one that reads a segment register.
+fn is_insensitive(op: Op) -> bool
+    ensures { result ≡ is_insensitive op }
+{
+    !matches!(
+        op,
+        Op::Return | Op::JumpTo | Op::CallTo | Op::ReadSeg | Op::PushSeg
+    )
 }
 
 fn outcome(
@@ -82,6 +108,7 @@ fn outcome(
 }
 
 // Writes, and forgets the walks whose tables it may have written.
+#[inline(always)]
 fn stored(walks: &mut Walks, ram: &mut Ram, root: u32, write: &Reach, stores: &Stores)
     requires stores { AreStored (IsWritten (length ram.old) write.now) stores.now }
     requires kept { AreKept walks.old ram.old root }
@@ -98,8 +125,9 @@ fn stored(walks: &mut Walks, ram: &mut Ram, root: u32, write: &Reach, stores: &S
     }
 }
 
-// Both ranges are reached.
-fn finish(
+// Both ranges of an instruction that isn't insensitive are reached.
+#[inline(never)]
+fn finish_transfer(
     walks: &mut Walks,
     view: &View,
     ram: &mut Ram,
@@ -124,57 +152,142 @@ fn finish(
     let came = outcome(view, ram, regs, insn, len, read, write);
     match &came {
         Outcome::Done(after, stores) => {
-            stored(walks, ram, view.root, &write, stores);
             *regs = *after;
+            stored(walks, ram, view.root, &write, stores);
             Ok(ended(view, insn.op, regs))
         }
-        Outcome::Raise(vector, code) => Err(Exit::Fault {
-            vector: *vector,
-            code: *code,
-            cr2: 0,
-        }),
+        Outcome::Raise(vector, code) => Err(fault(*vector, *code)),
         Outcome::Stop(stop) => Err(exit_of(*stop)),
     }
 }
 
-// Its ranges are to be reached.
-fn access(
+// Both ranges of an insensitive instruction are reached.
+fn finish_plain(
     walks: &mut Walks,
-    ram: &mut Ram,
     view: &View,
+    ram: &mut Ram,
     regs: &mut Regs,
     insn: &Insn,
     len: u8,
-    ranges: &Ranges,
+    read: Reach,
+    write: Reach,
 ) -> Result<Ending, Exit>
-    requires root { 4096 * view.now.root < length ram.old }
-    requires kept { AreKept walks.old ram.old view.now.root }
     requires done { IsUserDone insn.now.op }
+    requires insensitive { is_insensitive insn.now.op ≡ true }
     requires shape { IsShaped insn.now }
-    requires ranges { ranges.now ≡ ranges_of insn.now regs.old }
-    requires short { IsShort ranges.now.read × IsShort ranges.now.write }
-    ensures gives { Gives result regs.old regs.new ram.old ram.new (accessed view.now ram.old regs.old insn.now len) }
+    requires read { IsReach ram.old view.now.root read }
+    requires write { IsReach ram.old view.now.root write }
+    requires read_of { IsOf (ranges_of insn.now regs.old).read read }
+    requires write_of { IsOf (ranges_of insn.now regs.old).write write }
+    requires kept { AreKept walks.old ram.old view.now.root }
+    ensures gives { Gives result regs.old regs.new ram.old ram.new (finished view.now insn.now.op ram.old
+        (user_effect (selectors_of view.now) insn.now len regs.old (byte_at ram.old view.now.root))) }
     ensures len { length ram.new ≡ length ram.old }
     ensures kept { AreKept walks.new ram.new view.now.root }
 {
-    let read = reach(walks, ram, view, false, &ranges.read)?;
-    let write = reach(walks, ram, view, true, &ranges.write)?;
-    finish(walks, view, ram, regs, insn, len, read, write)
+    let bytes = Bytes {
+        ram,
+        root: view.root,
+        read,
+        write,
+    };
+    match effect(insn, len, regs, &bytes) {
+        Outcome::Done(after, stores) => {
+            *regs = after;
+            stored(walks, ram, view.root, &write, &stores);
+            Ok(ended(view, insn.op, regs))
+        }
+        Outcome::Raise(vector, code) => Err(fault(vector, code)),
+        Outcome::Stop(stop) => Err(exit_of(stop)),
+    }
 }
 
-// Its ranges, which cost no call where it works in registers alone.
+// Both ranges are reached.
 #[inline(always)]
-fn ranges_of(insn: &Insn, regs: &Regs) -> Ranges
-    ensures ranges { result ≡ ranges_of insn.now regs.now }
-    ensures short { IsShort result.read × IsShort result.write }
+fn finish(
+    walks: &mut Walks,
+    view: &View,
+    ram: &mut Ram,
+    regs: &mut Regs,
+    insn: &Insn,
+    len: u8,
+    read: Reach,
+    write: Reach,
+) -> Result<Ending, Exit>
+    requires done { IsUserDone insn.now.op }
+    requires shape { IsShaped insn.now }
+    requires read { IsReach ram.old view.now.root read }
+    requires write { IsReach ram.old view.now.root write }
+    requires read_of { IsOf (ranges_of insn.now regs.old).read read }
+    requires write_of { IsOf (ranges_of insn.now regs.old).write write }
+    requires kept { AreKept walks.old ram.old view.now.root }
+    ensures gives { Gives result regs.old regs.new ram.old ram.new (finished view.now insn.now.op ram.old
+        (user_effect (selectors_of view.now) insn.now len regs.old (byte_at ram.old view.now.root))) }
+    ensures len { length ram.new ≡ length ram.old }
+    ensures kept { AreKept walks.new ram.new view.now.root }
+{
+    if is_insensitive(insn.op) {
+        finish_plain(walks, view, ram, regs, insn, len, read, write)
+    } else {
+        finish_transfer(walks, view, ram, regs, insn, len, read, write)
+    }
+}
+
+// Reaches the ranges that an instruction may have in memory. What has none costs no call.
+#[inline(never)]
+#[tactic(auto, unfolding(crate::specs::HostStep::worked))]
+fn reach_ranges(
+    walks: &mut Walks,
+    ram: &Ram,
+    view: &View,
+    regs: &Regs,
+    insn: &Insn,
+    read: &mut Reach,
+    write: &mut Reach,
+) -> Result<(), Exit>
+    requires root { 4096 * view.now.root < length ram.now }
+    requires kept { AreKept walks.old ram.now view.now.root }
+    requires permitted { permitted insn.now ≡ Ok tt }
+    requires none { IsNone ram.now view.now.root read.old × IsNone ram.now view.now.root write.old }
+    ensures met { OnOk result (AreMet view.now ram.now regs.now insn.now) }
+    ensures exits { IfErr result (λ exit. (len : ℕ) → worked view.now ram.now regs.now insn.now len ≡ Err exit) }
+    ensures read { OnOk result (Leads ram.now view.now.root (ranges_of insn.now regs.now).read read.new) }
+    ensures write { OnOk result (Leads ram.now view.now.root (ranges_of insn.now regs.now).write write.new) }
+    ensures kept { AreKept walks.new ram.now view.now.root }
+{
+    let ranges = ranges(insn, regs);
+    segment_met(view, &ranges.read)?;
+    segment_met(view, &ranges.write)?;
+    reach(walks, ram, view, false, &ranges.read, read)?;
+    reach(walks, ram, view, true, &ranges.write, write)
+}
+
+// Reaches the ranges of an instruction. Of one that works in registers alone none is written to `read` and `write`.
+#[inline(always)]
+#[tactic(auto, unfolding(crate::specs::HostStep::worked))]
+fn reach_all(
+    walks: &mut Walks,
+    ram: &Ram,
+    view: &View,
+    regs: &Regs,
+    insn: &Insn,
+    read: &mut Reach,
+    write: &mut Reach,
+) -> Result<(), Exit>
+    requires root { 4096 * view.now.root < length ram.now }
+    requires kept { AreKept walks.old ram.now view.now.root }
+    requires permitted { permitted insn.now ≡ Ok tt }
+    requires none { IsNone ram.now view.now.root read.old × IsNone ram.now view.now.root write.old }
+    ensures met { OnOk result (AreMet view.now ram.now regs.now insn.now) }
+    ensures exits { IfErr result (λ exit. (len : ℕ) → worked view.now ram.now regs.now insn.now len ≡ Err exit) }
+    ensures read { OnOk result (Leads ram.now view.now.root (ranges_of insn.now regs.now).read read.new) }
+    ensures write { OnOk result (Leads ram.now view.now.root (ranges_of insn.now regs.now).write write.new) }
+    ensures kept { AreKept walks.new ram.now view.now.root }
 {
     if accesses_nothing(insn) {
-        return Ranges {
-            read: None,
-            write: None,
-        };
+        return Ok(());
     }
-    ranges(insn, regs)
+    reach_ranges(walks, ram, view, regs, insn, read, write)
 }
 
 // An instruction that was spelled.
@@ -195,10 +308,10 @@ fn work(
     ensures kept { AreKept walks.new ram.new view.now.root }
 {
     permitted(insn)?;
-    let ranges = ranges_of(insn, regs);
-    segment_met(view, &ranges.read)?;
-    segment_met(view, &ranges.write)?;
-    access(walks, ram, view, regs, insn, len, &ranges)
+    let mut read = Reach::none();
+    let mut write = Reach::none();
+    reach_all(walks, ram, view, regs, insn, &mut read, &mut write)?;
+    finish(walks, view, ram, regs, insn, len, read, write)
 }
 
 /// Does the instruction at EIP, or exits before it. What lies in one page is decoded and done where it stands.

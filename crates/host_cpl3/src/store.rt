@@ -16,6 +16,7 @@ use guest_ram::Ram;
 use ia32_exec::{Store, Stores, Writer, write_all};
 use ia32_types::Size;
 
+#[inline(always)]
 fn store_byte(ram: &mut Ram, reach: &Reach, at: u32, value: u8)
     requires { placed reach.now at < length ram.old }
     ensures memory { ram.new ≡ with_byte ram.old (placed reach.now at) value }
@@ -25,6 +26,7 @@ fn store_byte(ram: &mut Ram, reach: &Reach, at: u32, value: u8)
 }
 
 #[tactic(auto, using(crate::proofs::Writing::but_trans))]
+#[inline(always)]
 fn write_one(ram: &mut Ram, reach: &Reach, at: u32, size: Size, value: u32)
     requires { IsAllAt (IsWritten (length ram.old) reach.now) at size }
     ensures memory { ram.new ≡ number_stored (placed reach.now) ram.old at size value }
@@ -69,6 +71,7 @@ impl Writer for Reach {
 }
 
 /// Writes numbers into a range that was reached.
+#[inline(always)]
 pub fn store_all(ram: &mut Ram, reach: &Reach, stores: &Stores)
     requires { AreStored (IsWritten (length ram.old) reach.now) stores.now }
     ensures memory { ram.new ≡ all_stored (placed reach.now) ram.old (list_of stores.now) }

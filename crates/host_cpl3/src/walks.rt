@@ -124,21 +124,20 @@ impl Walks {
         self.walked(ram, root, page)
     }
 
-    // The entry of a page of code that isn't the last one's.
+    // Keeps the walk of a page of code that isn't the last one's as the last one.
     #[inline(never)]
-    fn other_code(&mut self, ram: &Ram, root: u32, page: u32) -> Option<Entry>
+    fn take_code(&mut self, ram: &Ram, root: u32, page: u32)
         requires root { 4096 * root < length ram.now }
         requires page { page < 2 ^ 20 }
         requires kept { AreKept self.old ram.now root }
-        ensures entry { result ≡ entry_in (walked ram.now root page) }
-        ensures frame { IfSome result (λ entry. entry.frame < length ram.now / 4096) }
+        ensures entry { self.new.code.entry ≡ entry_in (walked ram.now root page) }
+        ensures frame { IfSome self.new.code.entry (λ entry. entry.frame < length ram.now / 4096) }
         ensures kept { AreKept self.new ram.now root }
         ensures count { count_of self.new ≡ walk_count self.old page }
     {
         let entry = self.kept_data(ram, root, page);
         let table = self.tables[page as usize % 64];
         self.code = Last { page, entry, table };
-        entry
     }
 
     // The entry of the last fetch, if it was of the page.
@@ -164,10 +163,10 @@ impl Walks {
         ensures kept { AreKept self.new ram.now root }
         ensures count { count_of self.new ≡ count_after self.old true page }
     {
-        if let Some(entry) = self.last_code(page) {
-            return Some(entry);
+        if self.last_code(page).is_none() {
+            self.take_code(ram, root, page);
         }
-        self.other_code(ram, root, page)
+        self.code.entry
     }
 
     /// The entry of a page, where both its words are there.

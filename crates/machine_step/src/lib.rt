@@ -18,5 +18,5 @@ pub use instruction::carry_out;
 pub use laws::plain_divides;
 pub use resting::resting_steps;
 pub use rules::Rules;
-pub use stepping::{NO_BYTES, begin_again, first_state, interrupt, step_again, step_in};
+pub use stepping::{NO_BYTES, begin_again, first_state, interrupt, step_again, step_at, step_in};
 pub use worked::{Completed, Dropped, Raised, Seen, Worked, items_of, put_seen};

@@ -169,7 +169,7 @@ pub fn step_in<B: Translations>(
 }
 
 /// The same, where the step is recorded in its place. From here on the parts of its memory are one value.
-fn step_at<B: Translations>(
+pub fn step_at<B: Translations>(
     rules: &Rules,
     worked: &mut Worked,
     board: &mut Board,

@@ -33,7 +33,7 @@ use guest_ram::Ram;
 use ia32_types::Stop;
 use image_check::Checked;
 use machine_model::steps_follow;
-use machine_step::{Rules, Seen, Worked, step_in};
+use machine_step::{Dropped, Rules, Seen, Worked, step_at};
 use shadow_cache::Reloads;
 use shadow_tables::{Shadows, Side};
 use step_mem::{StepState, Text};
@@ -86,9 +86,15 @@ pub fn step_alone<'t, S: Reloads + Drop>(
         pool: &*pool,
     };
     begin_over(&running.cpu, ram, &kept, running.frames, image, text, state);
-    let outcome = step_in(&rules, &running.cpu, &mut running.board, ram, &kept, state);
-    match outcome {
-        Ok(worked) => {
+    let mut worked = Worked {
+        seen: Seen::Nothing,
+        completed: None,
+        cpu: running.cpu,
+        dropped: Dropped::Nothing,
+        raised: None,
+    };
+    match step_at(&rules, &mut worked, &mut running.board, ram, &kept, state) {
+        Ok(()) => {
             steps_follow();
             known_laws();
             are_bytes(ram, image, running.frames);

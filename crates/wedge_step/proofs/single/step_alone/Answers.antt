@@ -51,18 +51,18 @@ returns-in-Err-clause-step g c = λ script.
     let image = c.args.image.now in
     let n = running.frames in
     let ram0 = c.args.ram.now in
-    let ram1 = c.step_in-outcome.new.ram in
-    let state1 = c.step_in-outcome.new.state in
+    let ram1 = c.step_at.new.ram in
+    let state1 = c.step_at.new.state in
     let held = c.requires.between.held in
     let m = wedge image script n in
     let b = state_of g.S.Shadows m running ram0 in
     let laid = shown_is m image.text 256 ram0 refl refl in
     let start = began m b (wedge_mode image) (space_at (λ r. entries_of (g.S.Shadows.slots running.shadows r)) ram0 c.begin_over.new.state) refl (laying.laid image.text 256 n ram0) laid c.begin_over.ensures.space in
-    let raw = rw c.in-Err.is at (c.step_in-outcome.ensures.step m b (record { has = refl; over = refl })) in
+    let raw = c.in-Err.ensures.step m b (record { has = refl; over = refl }) in
     sym start ∙ raw
 
 -- the accesses that were done
-module _ (g : Over) (c : goal.After-worked-1 g) where
+module _ (g : Over) (c : goal.After-worked-in-Ok-1 g) where
   abbrev running : Running g.row.S.Denot
   running = c.args.running.now
 
@@ -76,19 +76,19 @@ module _ (g : Over) (c : goal.After-worked-1 g) where
   ram0 = c.args.ram.now
 
   abbrev ram1 : List ℕ
-  ram1 = c.step_in-outcome.new.ram
+  ram1 = c.step_at.new.ram
 
   abbrev state1 : kept_state.StepState
-  state1 = c.step_in-outcome.new.state
+  state1 = c.step_at.new.state
 
   frames1 : state1.control.frames ≡ n
-  frames1 = ap (λ (k : Control). k.frames) c.step_in-outcome.ensures.control ∙ c.begin_over.ensures.frames
+  frames1 = ap (λ (k : Control). k.frames) c.step_at.ensures.stays.0 ∙ c.begin_over.ensures.frames
 
   a : After g.S.Shadows image n running.shadows c.args.pool.now ram0 ram1
   a =
       let hid = sym (c.begin_over.ensures.hides n ram1)
-      ∙ (subst (λ (k : ℕ). laying.hidden c.begin_over.new.state.guard k ram1 ≡ laying.hidden c.begin_over.new.state.guard k ram0) c.begin_over.ensures.frames c.step_in-outcome.ensures.hidden ∙ c.begin_over.ensures.hides n ram0) in
-      let fits1 : 4096 * n ≤ length ram1 = subst (λ (k : ℕ). 4096 * k ≤ length ram1) frames1 c.step_in-outcome.ensures.sound.frames_in in
+      ∙ (subst (λ (k : ℕ). laying.hidden c.begin_over.new.state.guard k ram1 ≡ laying.hidden c.begin_over.new.state.guard k ram0) c.begin_over.ensures.frames c.step_at.ensures.stays.2 ∙ c.begin_over.ensures.hides n ram0) in
+      let fits1 : 4096 * n ≤ length ram1 = subst (λ (k : ℕ). 4096 * k ≤ length ram1) frames1 c.step_at.ensures.sound.frames_in in
       after g.S.Shadows g.met.S.Shadows.above g.met.S.Shadows.same_frames g.met.S.Shadows.same_slots g.met.S.Shadows.same_entries image running c.args.pool.now ram0 ram1 256 (text_pages image) c.requires.between.held fits1
       refl refl hid
 
@@ -96,7 +96,7 @@ module _ (g : Over) (c : goal.After-worked-1 g) where
   others1 = g.met.S.Shadows.same_other_roots running.shadows ram0 ram1 c.requires.between.held.stand a.same
 
   wp1 : state1.control.wp ≡ wp_of running.cpu
-  wp1 = ap (λ (k : Control). k.wp) c.step_in-outcome.ensures.control ∙ ap (λ (x : Space). x.wp) c.begin_over.ensures.space
+  wp1 = ap (λ (k : Control). k.wp) c.step_at.ensures.stays.0 ∙ ap (λ (x : Space). x.wp) c.begin_over.ensures.space
 
   open1 : AreOpen image state1.control.wp (g.S.Shadows.slots running.shadows ram1)
   open1 = subst (λ (x : Bool). AreOpen image x (g.S.Shadows.slots running.shadows ram1)) (sym wp1) (same_open image (wp_of running.cpu) (g.S.Shadows.slots running.shadows ram0) (g.S.Shadows.slots running.shadows ram1) a.slots_same c.requires.between.held.open_to)
@@ -117,7 +117,7 @@ module _ (g : Over) (c : goal.After-worked-1 g) where
     abbrev s1 : Space
     s1 = space_at (λ r. entries_of (g.S.Shadows.slots running.shadows r)) ram1 state1
 
-    went : stepped m b ≡ went_as b c.in-Ok.worked c.step_in-outcome.new.board s1
+    went : stepped m b ≡ went_as b c.step_at.new.worked c.step_at.new.board s1
     went =
         let r = c.args.running.now in
         let im = c.args.image.now in
@@ -127,15 +127,15 @@ module _ (g : Over) (c : goal.After-worked-1 g) where
         let b1 = state_of g.S.Shadows m1 r old in
         let laid = shown_is m1 im.text 256 old refl refl in
         let start = began m1 b1 (wedge_mode im) (space_at (λ x. entries_of (g.S.Shadows.slots r.shadows x)) old c.begin_over.new.state) refl (laying.laid im.text 256 k old) laid c.begin_over.ensures.space in
-        let raw = rw c.in-Ok.is at (c.step_in-outcome.ensures.step m1 b1 (record { has = refl; over = refl })) in
+        let raw = c.in-Ok.ensures.step m1 b1 (record { has = refl; over = refl }) in
         sym start ∙ raw
 
     ram1_is : s1.ram ≡ shown m ram1
     ram1_is =
-        let here : s1.ram ≡ laying.shown c.begin_over.new.state.guard n ram1 = λ i. laying.shown_by (c.step_in-outcome.ensures.text i).now (frames1 i) ram1 in
+        let here : s1.ram ≡ laying.shown c.begin_over.new.state.guard n ram1 = λ i. laying.shown_by (c.step_at.ensures.stays.1 i).now (frames1 i) ram1 in
         here ∙ (c.begin_over.ensures.lays n ram1 ∙ shown_is m image.text 256 ram1 refl refl)
 
-  behind1 : IsReadyBehind g.S.Shadows (leaving c.in-Ok.worked.dropped (pages_of state1.visited state1.changes)) (ground image n) running.cpu running.shadows ram1
+  behind1 : IsReadyBehind g.S.Shadows (leaving c.step_at.new.worked.dropped (pages_of state1.visited state1.changes)) (ground image n) running.cpu running.shadows ram1
       (changed (entries_of (g.S.Shadows.slots running.shadows ram1)) state1.changes) state1.tables state1.wrote
   behind1 =
       let held = c.requires.between.held in
@@ -149,10 +149,10 @@ module _ (g : Over) (c : goal.After-worked-1 g) where
         entries = a.entries_same;
         same = others1;
       } in
-      went_ready g.S.Shadows image n (b []) running.shadows ram0 ram1 k c.requires.between.ready c.steps_follow.ensures c.in-Ok.worked c.step_in-outcome.new.board (s1 []) state1.changes (went []) (ram1_is []) refl
+      went_ready g.S.Shadows image n (b []) running.shadows ram0 ram1 k c.requires.between.ready c.steps_follow.ensures c.step_at.new.worked c.step_at.new.board (s1 []) state1.changes (went []) (ram1_is []) refl
 
 module _ (g : Over) (c : goal.After-finish_step g) where
-  abbrev d : goal.After-worked-1 g
+  abbrev d : goal.After-worked-in-Ok-1 g
   d = c.before
 
   ready1 : IsReady g.S.Shadows (ground (image g d) (n g d)) c.finish_step.new.running.cpu c.finish_step.new.running.shadows c.finish_step.new.ram
@@ -163,14 +163,14 @@ pub returns-in-Ok-clause-step : goal.returns-in-Ok-clause-step
 returns-in-Ok-clause-step g c = λ script.
     let d = c.before in
     let m = wedge (image g d) script (n g d) in
-    let front = front_same (n g d) c.args.pool.now c.finish_step.new.pool (ram1 g d) c.finish_step.new.ram (g.S.Shadows.frames (running g d).shadows (ram1 g d)) (g.S.Shadows.frames c.finish_step.new.running.shadows c.finish_step.new.ram) c.requires.between.held.behind (owns c.step_in-outcome.ensures.sound.stands_now) c.finish_step.ensures.moved.moves in
+    let front = front_same (n g d) c.args.pool.now c.finish_step.new.pool (ram1 g d) c.finish_step.new.ram (g.S.Shadows.frames (running g d).shadows (ram1 g d)) (g.S.Shadows.frames c.finish_step.new.running.shadows c.finish_step.new.ram) c.requires.between.held.behind (owns c.step_at.ensures.sound.stands_now) c.finish_step.ensures.moved.moves in
     let ram_is : shown m c.finish_step.new.ram ≡ (s1 g d script).ram = shown_same m (ram1 g d) c.finish_step.new.ram front ∙ sym (ram1_is g d script) in
     let new = state_of g.S.Shadows m c.finish_step.new.running c.finish_step.new.ram in
-    let whole = dropping c.in-Ok.worked.dropped (s1 g d script).set in
+    let whole = dropping c.step_at.new.worked.dropped (s1 g d script).set in
     let left = is_left m new whole c.finish_step.new.running.lost c.finish_step.ensures.left
     (λ back. all_loosened (ground (image g d) (n g d)) c.finish_step.new.running.cpu (shown (ground (image g d) (n g d)) c.finish_step.new.ram) c.finish_step.new.running.cpu.cr3 (g.S.Shadows.read_from c.finish_step.new.running.shadows) (g.S.Shadows.slots c.finish_step.new.running.shadows c.finish_step.new.ram)
     ((ready1 g c).1 back) m (with_set new whole) refl (any_script (image g d) script (n g d) c.finish_step.new.ram) refl refl) in
-    alone_from m (b g d script) c.finish_step.new.running.lost c.in-Ok.worked c.step_in-outcome.new.board (s1 g d script) new (went g d script) c.finish_step.ensures.passes.cpu ram_is c.finish_step.ensures.passes.board c.finish_step.ensures.passes.step left
+    alone_from m (b g d script) c.finish_step.new.running.lost c.step_at.new.worked c.step_at.new.board (s1 g d script) new (went g d script) c.finish_step.ensures.passes.cpu ram_is c.finish_step.ensures.passes.board c.finish_step.ensures.passes.step left
 
 -- what the run carries goes on
 pub returns-in-Ok-clause-carried : goal.returns-in-Ok-clause-carried
@@ -179,7 +179,7 @@ returns-in-Ok-clause-carried g c = λ script steps t unwanted free roomy taken b
     let last = s1 g d script in
     let begun = space_at (λ r. entries_of (g.S.Shadows.slots (running g d).shadows r)) (ram0 g d) c.begin_over.new.state in
     let widens : Widens g.S.Shadows = record { same_other_roots = g.met.S.Shadows.same_other_roots; same_tables_under = g.met.S.Shadows.same_tables_under; wider = g.met.S.Shadows.wider; sized = g.met.S.Reloads.sized } in
-    let sound = c.step_in-outcome.ensures.sound in
+    let sound = c.step_at.ensures.sound in
     let pages = sound.visits in
     let most = sound.few in
     let ram_is : last.ram ≡ shown (ground (image g d) (n g d)) (ram1 g d) = ram1_is g d script ∙ any_script (image g d) script (n g d) (ram1 g d) in
@@ -187,8 +187,8 @@ returns-in-Ok-clause-carried g c = λ script steps t unwanted free roomy taken b
     let same = ap length ram_is in
     went_on g.S.Shadows widens c.known_laws.ensures (image g d) script (running g d) c.args.pool.now (ram0 g d) (ram1 g d)
     c.requires.between.held (a g d) steps t (entries_of (g.S.Shadows.slots (running g d).shadows (ram0 g d))) free roomy taken by (record { known = carried.known; opened_to = carried.opened_to }) last (state1 g d).changes refl sound.told c.finish_step.new.running.shadows c.finish_step.new.ram c.finish_step.ensures.has_tables_under
-    c.in-Ok.worked c.step_in-outcome.new.board (went g d script) (rw c.in-Ok.is at c.step_in-outcome.ensures.roots) c.requires.between.ready (omega (arith, long, same)) (subst AreBytes (sym ram_is) c.are_bytes.ensures.bytes) begun c.text_frames-count.result (state1 g d).control.frames c.text_frames-count.ensures
-    (rw c.in-Ok.is at c.step_in-outcome.ensures.uses) (ap (λ (x : Space). x.visited) c.begin_over.ensures.space) (ap (λ (x : Space). x.mode) c.begin_over.ensures.space) sound.within (omega (arith, pages, most)) (c.finish_step.ensures.ends unwanted)
+    c.step_at.new.worked c.step_at.new.board (went g d script) c.in-Ok.ensures.roots c.requires.between.ready (omega (arith, long, same)) (subst AreBytes (sym ram_is) c.are_bytes.ensures.bytes) begun c.text_frames-count.result (state1 g d).control.frames c.text_frames-count.ensures
+    c.in-Ok.ensures.uses (ap (λ (x : Space). x.visited) c.begin_over.ensures.space) (ap (λ (x : Space). x.mode) c.begin_over.ensures.space) sound.within (omega (arith, pages, most)) (c.finish_step.ensures.ends unwanted)
 
 pub begin_over-requires-clause-below : goal.begin_over-requires-clause-below
 begin_over-requires-clause-below g c = frames_behind _ _ c.requires.between.held.behind
@@ -199,11 +199,11 @@ begin_over-requires-clause-within g c = c.requires.between.held.within
 pub begin_over-requires-clause-room : goal.begin_over-requires-clause-room
 begin_over-requires-clause-room g c = c.requires.between.held.wedge.room
 
-pub step_in-outcome-requires-clause-sound : goal.step_in-outcome-requires-clause-sound
-step_in-outcome-requires-clause-sound g c = c.begin_over.ensures.sound
+pub step_at-requires-clause-sound : goal.step_at-requires-clause-sound
+step_at-requires-clause-sound g c = c.begin_over.ensures.sound
 
-pub step_in-outcome-requires-clause-pages : goal.step_in-outcome-requires-clause-pages
-step_in-outcome-requires-clause-pages g c = c.begin_over.ensures.pages
+pub step_at-requires-clause-pages : goal.step_at-requires-clause-pages
+step_at-requires-clause-pages g c = c.begin_over.ensures.pages
 
 pub returns-in-Ok-clause-notes_wanted : goal.returns-in-Ok-clause-notes_wanted
 returns-in-Ok-clause-notes_wanted g c = c.finish_step.ensures.notes_wanted
@@ -228,7 +228,7 @@ returns-in-Err-clause-before g c = refl
 
 pub finish_step-requires-clause-under : goal.finish_step-requires-clause-under
 finish_step-requires-clause-under g c = record {
-  sound = c.step_in-outcome.ensures.sound;
+  sound = c.step_at.ensures.sound;
   counted = c.requires.between.held.counted ∙ ap length (sym (a g c).frames_same);
   few = few_after g.S.Shadows (image g c) (running g c) c.args.pool.now (ram0 g c) (ram1 g c) c.requires.between.held (a g c);
 }
@@ -253,13 +253,13 @@ returns-in-Err-clause-accounts g c =
     let image = c.args.image.now in
     let n = running.frames in
     let ram0 = c.args.ram.now in
-    let ram1 = c.step_in-outcome.new.ram in
-    let state1 = c.step_in-outcome.new.state in
+    let ram1 = c.step_at.new.ram in
+    let state1 = c.step_at.new.state in
     let held = c.requires.between.held in
-    let frames1 : state1.control.frames ≡ n = ap (λ (k : Control). k.frames) c.step_in-outcome.ensures.control ∙ c.begin_over.ensures.frames in
+    let frames1 : state1.control.frames ≡ n = ap (λ (k : Control). k.frames) c.step_at.ensures.stays.0 ∙ c.begin_over.ensures.frames in
     let hid = sym (c.begin_over.ensures.hides n ram1)
-    ∙ (subst (λ (k : ℕ). laying.hidden c.begin_over.new.state.guard k ram1 ≡ laying.hidden c.begin_over.new.state.guard k ram0) c.begin_over.ensures.frames c.step_in-outcome.ensures.hidden ∙ c.begin_over.ensures.hides n ram0) in
-    let fits1 : 4096 * n ≤ length ram1 = subst (λ (k : ℕ). 4096 * k ≤ length ram1) frames1 c.step_in-outcome.ensures.sound.frames_in in
+    ∙ (subst (λ (k : ℕ). laying.hidden c.begin_over.new.state.guard k ram1 ≡ laying.hidden c.begin_over.new.state.guard k ram0) c.begin_over.ensures.frames c.step_at.ensures.stays.2 ∙ c.begin_over.ensures.hides n ram0) in
+    let fits1 : 4096 * n ≤ length ram1 = subst (λ (k : ℕ). 4096 * k ≤ length ram1) frames1 c.step_at.ensures.sound.frames_in in
     let left = step_leaves image n 256 (text_pages image) ram0 ram1 held.wedge.room held.host.room fits1 refl refl hid in
     let behind : 4096 * n ≤ 4096 * base_of c.args.pool.now = frames_behind _ _ held.behind in
     let same = g.met.S.Shadows.above running.shadows c.args.pool.now ram0 ram1 (4096 * n) held.owns behind left.above left.size in
@@ -267,7 +267,7 @@ returns-in-Err-clause-accounts g c =
     let fs = g.S.Shadows.frames running.shadows ram0 in
     let gs = g.S.Shadows.frames running.shadows ram1 in
     record {
-      stands = first c.step_in-outcome.ensures.sound.stands_now;
+      stands = first c.step_at.ensures.sound.stands_now;
       counted = held.counted ∙ ap length (sym frames_same);
       pool = keeps_above c.args.pool.now ram0 ram1 (4096 * n) fs gs held.owns.stands behind left.above left.size frames_same;
       filled = fills_same _ _ running.fills
@@ -297,9 +297,9 @@ returns-in-Ok-clause-between g c =
     let d = c.before in
     let m = ground (image g d) (n g d) in
     let whole1 = changed (entries_of (g.S.Shadows.slots (running g d).shadows (ram1 g d))) (state1 g d).changes in
-    let within1 = subst (λ (k : ℕ). AreWithin k whole1) (frames1 g d) c.step_in-outcome.ensures.sound.within in
+    let within1 = subst (λ (k : ℕ). AreWithin k whole1) (frames1 g d) c.step_at.ensures.sound.within in
     let slots2 = g.S.Shadows.slots c.finish_step.new.running.shadows c.finish_step.new.ram in
-    let within2 = within_left (n g d) slots2 c.in-Ok.worked.dropped c.finish_step.new.running.lost whole1 c.finish_step.ensures.left within1
+    let within2 = within_left (n g d) slots2 c.step_at.new.worked.dropped c.finish_step.new.running.lost whole1 c.finish_step.ensures.left within1
     (λ back. all_within m c.finish_step.new.running.cpu (shown m c.finish_step.new.ram) c.finish_step.new.running.cpu.cr3 (g.S.Shadows.read_from c.finish_step.new.running.shadows) slots2 ((ready1 g c).1 back)) in
     let open2 = c.finish_step.ensures.shows (image g d) c.text_frames-count.ensures (open1 g d) (opens1 g d) in
     let all = c.requires.between.enough in
@@ -310,7 +310,7 @@ returns-in-Ok-clause-between g c =
     let lengths = c.finish_step.ensures.moved.moves.lengths in
     let new = c.finish_step.new.running in
     let frames = sym c.finish_step.ensures.passes.frames in
-    let held = held_then g.S.Shadows (image g d) (running g d) c.finish_step.new.running c.args.pool.now c.finish_step.new.pool (ram0 g d) (ram1 g d) c.finish_step.new.ram c.requires.between.held (a g d) (owns c.step_in-outcome.ensures.sound.stands_now) c.finish_step.ensures.moved.moves
+    let held = held_then g.S.Shadows (image g d) (running g d) c.finish_step.new.running c.args.pool.now c.finish_step.new.pool (ram0 g d) (ram1 g d) c.finish_step.new.ram c.requires.between.held (a g d) (owns c.step_at.ensures.sound.stands_now) c.finish_step.ensures.moved.moves
     c.finish_step.ensures.moved.stands c.finish_step.ensures.moved.owns c.finish_step.ensures.counts.counted c.finish_step.ensures.counts.fills c.finish_step.ensures.passes.frames within2
     (subst (λ (x : Cpu). AreOpen (image g d) (wp_of x) slots2) (sym c.finish_step.ensures.passes.cpu) open2) in
     record {
@@ -335,7 +335,7 @@ begin_over-requires-clause-text g c = c.requires.text
 
 pub are_bytes-requires-clause-frames : goal.are_bytes-requires-clause-frames
 are_bytes-requires-clause-frames g c =
-    subst (λ (k : ℕ). 4096 * k ≤ length c.step_in-outcome.new.ram) (ap (λ (k : Control). k.frames) c.step_in-outcome.ensures.control ∙ c.begin_over.ensures.frames) c.step_in-outcome.ensures.sound.frames_in
+    subst (λ (k : ℕ). 4096 * k ≤ length c.step_at.new.ram) (ap (λ (k : Control). k.frames) c.step_at.ensures.stays.0 ∙ c.begin_over.ensures.frames) c.step_at.ensures.sound.frames_in
 
 pub are_bytes-requires-clause-laid : goal.are_bytes-requires-clause-laid
 are_bytes-requires-clause-laid g c = text_laid _ _ _ (text_within c.args.image.now) c.requires.between.held.wedge.room

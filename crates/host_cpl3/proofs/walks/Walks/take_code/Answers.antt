@@ -3,7 +3,7 @@ use Rattle.std.specs.Prelude.{slice_index, IfSome}
 use Rattle.paging.specs.declared.entry.Entry.{Entry}
 use Rattle.host_cpl3.specs.KeptWalks.{IsKeptWithin}
 use Rattle.host_cpl3.proofs.Keeping.{last_kept}
-use Rattle.host_cpl3.proofs.walks.Walks.other_code.Goals as goal
+use Rattle.host_cpl3.proofs.walks.Walks.take_code.Goals as goal
 
 pub returns-clause-kept : goal.returns-clause-kept
 returns-clause-kept c =

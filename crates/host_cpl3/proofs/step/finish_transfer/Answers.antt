@@ -6,7 +6,7 @@ use Rattle.host_cpl3.specs.HostStep.{ended, finished}
 use Rattle.host_cpl3.specs.Reaches.{placed}
 use Rattle.host_cpl3.proofs.Finishing.{finish_stores}
 use Rattle.host_cpl3.proofs.Storing.{stores_same}
-use Rattle.host_cpl3.proofs.step.finish.Goals as goal
+use Rattle.host_cpl3.proofs.step.finish_transfer.Goals as goal
 
 pub stored-requires-clause-stores : goal.stored-requires-clause-stores
 stored-requires-clause-stores c =
