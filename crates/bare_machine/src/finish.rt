@@ -41,6 +41,7 @@ pub fn finish_step<C: Cache>(
         (concluded whats completed (state_of C.entries machine.old) cpu.now machine.old.board s))
         machine.old.step whats (state_of C.entries machine.new) }
     ensures goes_on { GoesOn C.entries C.is_exact machine.old machine.new }
+    ensures cpu { machine.new.cpu ≡ cpu.now }
     ensures count { machine.new.step ≡ machine.old.step + 1 }
 {
     leave(&mut machine.kept, changes, pages, dropped);

@@ -31,6 +31,7 @@ pub fn rest<C: Cache>(machine: &mut BareMachine<C>, script: &Script, n: u64)
     ensures kept { (image : Image) → KeptRests C.keeping (bare image script.now.list machine.old.frames)
         (state_of C.entries machine.old) (state_of C.entries machine.new) }
     ensures goes_on { GoesOn C.entries C.is_exact machine.old machine.new }
+    ensures cpu { machine.new.cpu ≡ machine.old.cpu }
     // Short of the bound it ends only where something reaches the board in the next step.
     ensures furthest { machine.old.cpu.halted ≡ true → machine.old.cpu.held ≡ false
         → interrupt_of machine.old.cpu machine.old.board ≡ None → machine.new.step < n

@@ -59,6 +59,8 @@ pub fn step<C: Cache>(
     requires kept { IsKept machine.old.frames (state_of C.entries machine.old) }
     requires bound { machine.old.step < 2 ^ 40 }
     requires none { NoneComes script.now.list machine.old.step next.old }
+    requires same { worked.old.cpu ≡ machine.old.cpu }
+    ensures same { OnOk result (worked.new.cpu ≡ machine.new.cpu) }
     ensures none { NoneComes script.now.list (machine.old.step + 1) next.new }
     ensures step { (image : Image) → StepAs
         (own_step (bare image script.now.list machine.old.frames) (state_of C.entries machine.old))
@@ -79,7 +81,6 @@ pub fn step<C: Cache>(
         ≡ taken_in machine.old.cpu (given machine.old.board script.now.list machine.old.step)) }
 {
     begin(&mut machine.board, script, machine.step, next);
-    worked.cpu = machine.cpu;
     let result = tried(
         worked,
         &mut machine.board,

@@ -112,6 +112,7 @@ pub fn one_step<C: Cache>(
 {
     runs_keep_fit();
     segment_count(&machine.cpu.seg);
+    room.worked.cpu = machine.cpu;
     let mut next = room.next;
     let result = step(
         machine,

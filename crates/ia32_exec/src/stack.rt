@@ -42,6 +42,7 @@ pub fn pushed_number(value: u32, regs: Regs) -> Outcome
 
 /// PUSH.
 #[tactic(auto, unfolding(crate::specs::Stack::pushed))]
+#[inline(never)]
 pub fn pushed<M: LinearBytes>(insn: &Insn, len: u8, regs: &Regs, mem: &M) -> Outcome
     requires { IsReadable (M.readable mem.now) insn.now.a Long regs.now }
     ensures { result ≡ pushed insn.now len regs.now (M.byte mem.now) }
@@ -59,6 +60,7 @@ fn top_of_stack<M: LinearBytes>(regs: &Regs, mem: &M) -> u32
 
 /// POP.
 #[tactic(auto, unfolding(crate::specs::Stack::popped))]
+#[inline(never)]
 pub fn popped<M: LinearBytes>(insn: &Insn, len: u8, regs: &Regs, mem: &M) -> Outcome
     requires named { IsNamed insn.now.a }
     requires covered { IsAllAt (M.readable mem.now) (stack_of regs.now) Long }
@@ -73,6 +75,7 @@ pub fn popped<M: LinearBytes>(insn: &Insn, len: u8, regs: &Regs, mem: &M) -> Out
 
 /// PUSHA.
 #[tactic(auto, unfolding(crate::specs::Stack::all_pushed))]
+#[inline(never)]
 pub fn all_pushed(len: u8, regs: &Regs) -> Outcome
     ensures { result ≡ all_pushed len regs.now }
 {
@@ -93,6 +96,7 @@ fn slot_of<M: LinearBytes>(k: u32, regs: &Regs, mem: &M) -> u32
 
 /// POPA.
 #[tactic(auto, unfolding(crate::specs::Stack::all_popped))]
+#[inline(never)]
 pub fn all_popped<M: LinearBytes>(len: u8, regs: &Regs, mem: &M) -> Outcome
     requires { AreAll (M.readable mem.now) (stack_of regs.now) 32 }
     ensures { result ≡ all_popped len regs.now (M.byte mem.now) }
@@ -115,6 +119,7 @@ pub fn all_popped<M: LinearBytes>(len: u8, regs: &Regs, mem: &M) -> Outcome
 
 /// LEAVE.
 #[tactic(auto, unfolding(crate::specs::Stack::frame_left))]
+#[inline(never)]
 pub fn frame_left<M: LinearBytes>(len: u8, regs: &Regs, mem: &M) -> Outcome
     requires { IsAllAt (M.readable mem.now) (slice_index regs.now.r 5) Long }
     ensures { result ≡ frame_left len regs.now (M.byte mem.now) }
@@ -130,6 +135,7 @@ pub fn frame_left<M: LinearBytes>(len: u8, regs: &Regs, mem: &M) -> Outcome
 
 /// CALL of a distance.
 #[tactic(auto, unfolding(crate::specs::Stack::called))]
+#[inline(never)]
 pub fn called(insn: &Insn, len: u8, regs: &Regs) -> Outcome
     ensures { result ≡ called insn.now len regs.now }
 {
@@ -143,6 +149,7 @@ pub fn called(insn: &Insn, len: u8, regs: &Regs) -> Outcome
 
 /// PUSHF.
 #[tactic(auto, unfolding(crate::specs::Stack::flags_pushed))]
+#[inline(never)]
 pub fn flags_pushed(len: u8, regs: &Regs) -> Outcome
     ensures { result ≡ flags_pushed len regs.now }
 {
@@ -178,6 +185,7 @@ pub fn taken(flags: Flags, image: Flags) -> Flags
 
 /// POPF at CPL 3 and IOPL 0.
 #[tactic(auto, unfolding(crate::specs::Stack::flags_popped))]
+#[inline(never)]
 pub fn flags_popped<M: LinearBytes>(len: u8, regs: &Regs, mem: &M) -> Outcome
     requires { IsAllAt (M.readable mem.now) (stack_of regs.now) Long }
     ensures { result ≡ flags_popped len regs.now (M.byte mem.now) }

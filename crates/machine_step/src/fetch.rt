@@ -9,7 +9,7 @@ ghost use Rattle.step_mem.specs.Changes.{HasEntry};
 ghost use Rattle.step_mem.specs.Pages.{bytes_from};
 ghost use Rattle.machine_model.specs.Instruction.{fetching, fetched_on, fetched, next_page};
 ghost use Rattle.machine_model.specs.UsedPages.{Uses, AtRefusal};
-ghost use Rattle.machine_step.specs.Fetches.{GivesAs};
+ghost use Rattle.machine_step.specs.Fetches.{GivesAs, found_by};
 
 use arrayvec::ArrayVec;
 use ia32_decode::{Bytes, Decoded, LONGEST, append, decode, decode_joined, front_len, next_page};
@@ -30,16 +30,46 @@ pub fn fetch<M: StepMemory>(mem: &mut M, user: bool, at: u32) -> Result<Decoded,
     ensures pages { (M.space mem.new).pages ≤ (M.space mem.old).pages + 2 }
     ensures frame { M.frame mem.new ≡ M.frame mem.old }
 {
+    let mut found = Decoded::Outside;
+    match fetch_into(mem, user, at, &mut found) {
+        Ok(()) => Ok(found),
+        Err(refusal) => Err(refusal),
+    }
+}
+
+/// The same, where the instruction is put into its place.
+pub fn fetch_into<M: StepMemory>(
+    mem: &mut M,
+    user: bool,
+    at: u32,
+    found: &mut Decoded,
+) -> Result<(), Refusal>
+    requires room { (M.space mem.old).pages ≤ 62 }
+    ensures uses { OnOk result (Uses user (M.space mem.old) (M.space mem.new)) }
+    ensures refused { IfErr result (λ refusal. AtRefusal user (M.space mem.old) refusal (M.space mem.new)) }
+    ensures fetched { Gives (found_by result found.new) (M.space mem.new) (fetched user at (M.space mem.old)) }
+    ensures spelled { OnOk result (IsSpelled found.new) }
+    ensures pages { (M.space mem.new).pages ≤ (M.space mem.old).pages + 2 }
+    ensures frame { M.frame mem.new ≡ M.frame mem.old }
+{
     works_use();
-    fetch_pages(mem, user, at)
+    match fetch_pages(mem, user, at, found) {
+        Ok(()) => Ok(()),
+        Err(refusal) => Err(refusal),
+    }
 }
 
 // From the first page, or both.
 #[tactic(auto, unfolding(machine_model::specs::Instruction::fetched, machine_model::specs::Instruction::owning_front))]
-fn fetch_pages<M: StepMemory>(mem: &mut M, user: bool, at: u32) -> Result<Decoded, Refusal>
+fn fetch_pages<M: StepMemory>(
+    mem: &mut M,
+    user: bool,
+    at: u32,
+    found: &mut Decoded,
+) -> Result<(), Refusal>
     requires room { (M.space mem.old).pages ≤ 62 }
-    ensures fetched { Gives result (M.space mem.new) (fetched user at (M.space mem.old)) }
-    ensures spelled { IfOk result IsSpelled }
+    ensures fetched { Gives (found_by result found.new) (M.space mem.new) (fetched user at (M.space mem.old)) }
+    ensures spelled { OnOk result (IsSpelled found.new) }
     ensures pages { (M.space mem.new).pages ≤ (M.space mem.old).pages + 2 }
     ensures frame { M.frame mem.new ≡ M.frame mem.old }
 {
@@ -48,12 +78,22 @@ fn fetch_pages<M: StepMemory>(mem: &mut M, user: bool, at: u32) -> Result<Decode
     match decode_page(mem, at, front) {
         Decoded::Insn(insn, len) => {
             mem.own_front(at, u32::from(len));
-            Ok(Decoded::Insn(insn, len))
+            *found = Decoded::Insn(insn, len);
+            Ok(())
         }
-        Decoded::Outside => Ok(Decoded::Outside),
+        Decoded::Outside => {
+            *found = Decoded::Outside;
+            Ok(())
+        }
         Decoded::Short => match next_page(at) {
             None => Err(Refusal::Stop(Stop::WrapAccess)),
-            Some(next) => fetch_on(mem, user, at, next),
+            Some(next) => match fetch_on(mem, user, at, next) {
+                Ok(whole) => {
+                    *found = whole;
+                    Ok(())
+                }
+                Err(refusal) => Err(refusal),
+            },
         },
     }
 }

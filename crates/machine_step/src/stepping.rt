@@ -18,7 +18,7 @@ ghost use Rattle.machine_step.specs.Ruled.{IsRuled};
 ghost use Rattle.machine_step.specs.Worked.{ComesTo, IsDropped, answer_of};
 
 use crate::delivery::{deliver, refuse_at};
-use crate::fetch::fetch;
+use crate::fetch::fetch_into;
 use crate::instruction::carry_out_at;
 use crate::rules::{Rules, stands_well};
 use crate::worked::{Dropped, Seen, Worked};
@@ -273,9 +273,12 @@ fn work<M: StepMemory>(
         return Err(Stop::NotAStart);
     }
     let user = worked.cpu.cpl == 3;
-    match fetch(mem, user, worked.cpu.regs.eip) {
-        Ok(Decoded::Insn(insn, len)) => { carry_out_at(rules, &insn, len, worked, board, mem) }
-        Ok(_) => Err(Stop::Unsupported),
+    let mut found = Decoded::Outside;
+    match fetch_into(mem, user, worked.cpu.regs.eip, &mut found) {
+        Ok(()) => match &found {
+            Decoded::Insn(insn, len) => carry_out_at(rules, insn, *len, worked, board, mem),
+            _ => Err(Stop::Unsupported),
+        },
         Err(refusal) => refuse_at(rules, worked, mem, refusal),
     }
 }

@@ -1,4 +1,5 @@
 pub mod Stored
+pub mod Reading
 pub mod Ready
 pub mod Divided
 pub mod Works

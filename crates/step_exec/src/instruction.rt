@@ -119,9 +119,6 @@ fn outcome<M: StepMemory>(ranges: &Ranges, insn: &Insn, len: u8, cpu: &Cpu, mem:
     ensures { result ≡ effect insn.now len cpu.now.regs
         (byte_of (ranges_of insn.now cpu.now.regs) (M.space mem.now)) }
 {
-    let view = View {
-        mem,
-        ranges: *ranges,
-    };
+    let view = View { mem, ranges };
     effect(insn, len, &cpu.regs, &view)
 }

@@ -33,9 +33,7 @@ pub fn user_outcome<M: StepMemory>(insn: &Insn, len: u8, cpu: &Cpu, mem: &M) -> 
     ensures { result ≡ user_effect (selectors_of cpu.now) insn.now len cpu.now.regs
         (byte_of (ranges_of insn.now cpu.now.regs) (M.space mem.now)) }
 {
-    let view = View {
-        mem,
-        ranges: ranges(insn, &cpu.regs),
-    };
+    let ranges = &ranges(insn, &cpu.regs);
+    let view = View { mem, ranges };
     user_effect(&selectors_of(cpu), insn, len, &cpu.regs, &view)
 }

@@ -11,7 +11,7 @@ use ia32_types::Size;
 #[derive(Drop)]
 pub struct View<'a, M: StepMemory> {
     pub mem: &'a M,
-    pub ranges: Ranges,
+    pub ranges: &'a Ranges,
 }
 
 fn is_in(range: Option<Range>, at: u32) -> bool
@@ -27,9 +27,9 @@ impl<M: StepMemory> LinearBytes for View<'_, M> {
     ghost use Rattle.step_exec.specs.Divided.{byte_of};
     ghost use Rattle.step_exec.specs.Ready.{IsOpen};
 
-    ghost byte = { λ v at. byte_of v.ranges (M.space v.mem.now) at };
+    ghost byte = { λ v at. byte_of v.ranges.now (M.space v.mem.now) at };
 
-    ghost readable = { λ v at. IsOpen v.ranges (M.space v.mem.now) at };
+    ghost readable = { λ v at. IsOpen v.ranges.now (M.space v.mem.now) at };
 
     ghost read_in_space = { λ v at h. h.space };
 
@@ -39,5 +39,15 @@ impl<M: StepMemory> LinearBytes for View<'_, M> {
             return self.mem.read_earlier(at, Size::Byte);
         }
         self.mem.read(at, Size::Byte)
+    }
+
+    fn whole(&self, at: u32, size: Size) -> Option<u32> {
+        match &self.ranges.write {
+            None => Some(self.mem.read(at, size)),
+            Some(_) => match &self.ranges.read {
+                None => Some(self.mem.read(at, size)),
+                Some(_) => None,
+            },
+        }
     }
 }

@@ -1,6 +1,7 @@
-use Rattle.std.proofs.Common.{◌≡◌, ◌+◌, ◌≤◌, ℕ, Bool, [], ◌∷◌, ◌++◌, refl, ◌∙◌, subst, arith}
+use Rattle.std.proofs.Common.{◌≡◌, ◌+◌, ◌≤◌, ℕ, Bool, [], ◌∷◌, ◌++◌, refl, ap, sym, ◌∙◌, subst, arith}
 use Rattle.machine_model.specs.Step.{Halts, step_of}
 use Rattle.machine_step.specs.Worked.{whats}
+use Rattle.machine_step.specs.declared.worked.Worked.{Worked}
 use Rattle.bare_machine.specs.Machine.{state_of, Goes, Rests}
 use Rattle.bare_machine.specs.Settings.{bare}
 use Rattle.bare_machine.proofs.Going.{going_none, going_on, passes_here, passes_on, front_on, goes_further}
@@ -18,6 +19,7 @@ loop-machine-init g c = record {
   kept = refl;
   bound = c.requires.begun;
   none = none_before c.args.script.now.list c.args.machine.now.step;
+  same = ap (λ (w : Worked). w.cpu) c.at-worked.ensures;
 }
 
 pub loop-machine-preserved : goal.loop-machine-preserved
@@ -46,6 +48,7 @@ loop-machine-preserved g c = record {
   none =
       let on : c.loop-machine.machine.step + 1 ≤ c.rest.new.machine.step = omega (arith, c.in-Ok.ensures.count, c.rest.ensures.later) in
       none_later c.args.script.now.list (c.loop-machine.machine.step + 1) c.rest.new.machine.step c.step.new.next on c.in-Ok.ensures.none;
+  same = c.in-Ok.ensures.same ∙ sym c.rest.ensures.cpu;
 }
 
 pub returns-in-Err-clause-slice : goal.returns-in-Err-clause-slice

@@ -15,6 +15,7 @@ invariant-loop-machine g l = record {
   kept : g.O.Sink.faults l.out ≡ g.O.Sink.faults l.fn.out;
   bound : l.machine.step ≤ l.bound;
   none : NoneComes l.script.list l.machine.step l.next;
+  same : l.worked.cpu ≡ l.machine.cpu;
 }
 
 abbrev pub decreases-loop-machine : goal.decreases-loop-machine

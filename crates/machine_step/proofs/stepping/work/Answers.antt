@@ -11,23 +11,23 @@ use Rattle.machine_step.proofs.Leaving.{leaves_on, leaves_nowhere, leaves_halted
 use Rattle.machine_step.proofs.Raising.{raises_on, raises_nowhere, raises_halted}
 use Rattle.machine_step.proofs.stepping.work.Goals as goal
 
-pub returns-in-Ok-Insn-clause-uses : goal.returns-in-Ok-Insn-clause-uses
-returns-in-Ok-Insn-clause-uses g c =
+pub returns-in-Insn-clause-uses : goal.returns-in-Insn-clause-uses
+returns-in-Insn-clause-uses g c =
     let s = g.M.GuestMem.space c.args.mem.now in
-    let t = g.M.GuestMem.space c.fetch.new.mem in
+    let t = g.M.GuestMem.space c.fetch_into.new.mem in
     let u = g.M.GuestMem.space c.carry_out_at.new.mem in
-    if_ok_on (c.args.worked.now.cpu.cpl == 3) s t u c.carry_out_at.result c.in-Ok-Insn.ensures.uses c.carry_out_at.ensures.uses
+    if_ok_on (c.args.worked.now.cpu.cpl == 3) s t u c.carry_out_at.result c.in-Ok.ensures.uses c.carry_out_at.ensures.uses
 
 pub returns-in-Err-clause-uses : goal.returns-in-Err-clause-uses
 returns-in-Err-clause-uses g c =
     let s = g.M.GuestMem.space c.args.mem.now in
     c.refuse_at.ensures.goes_on s c.in-Err.ensures.refused
 
-pub returns-in-Ok-Insn-clause-step : goal.returns-in-Ok-Insn-clause-step
-returns-in-Ok-Insn-clause-step g c = λ m b k.
+pub returns-in-Insn-clause-step : goal.returns-in-Insn-clause-step
+returns-in-Insn-clause-step g c = λ m b k.
     let here = record b { cpu = c.args.worked.now.cpu; board = c.args.board.now } in
     let s = g.M.GuestMem.space c.args.mem.now in
-    let goes = works_on m here s c.if-worked.false (sym (c.stands_well-well.ensures m k) ∙ c.if-not-well.false) ∙ ap (after_fetch m here) (rw c.in-Ok-Insn.field-0-is at c.in-Ok-Insn.ensures.fetched) in
+    let goes = works_on m here s c.if-worked.false (sym (c.stands_well-well.ensures m k) ∙ c.if-not-well.false) ∙ ap (after_fetch m here) (rw c.in-Insn.is at c.in-Ok.ensures.fetched) in
     subst (λ (r : steps.Result). ComesTo r b (answer_of c.carry_out_at.result c.carry_out_at.new.worked) c.carry_out_at.new.board (g.M.GuestMem.space c.carry_out_at.new.mem)) (sym goes)
     (c.carry_out_at.ensures.step m here k)
 
@@ -43,13 +43,13 @@ pub returns-in-Err-clause-stopped : goal.returns-in-Err-clause-stopped
 returns-in-Err-clause-stopped g c = on_err c.refuse_at.result refl
 
 pub carry_out_at-requires-clause-spelled : goal.carry_out_at-requires-clause-spelled
-carry_out_at-requires-clause-spelled g c = rw c.in-Ok-Insn.field-0-is at c.in-Ok-Insn.ensures.spelled
+carry_out_at-requires-clause-spelled g c = rw c.in-Insn.is at c.in-Ok.ensures.spelled
 
-pub returns-in-Ok-Insn-clause-raised : goal.returns-in-Ok-Insn-clause-raised
-returns-in-Ok-Insn-clause-raised g c = λ m k.
+pub returns-in-Insn-clause-raised : goal.returns-in-Insn-clause-raised
+returns-in-Insn-clause-raised g c = λ m k.
     let cpu = c.args.worked.now.cpu in
     let goes = raises_on m cpu (g.M.GuestMem.space c.args.mem.now) c.if-worked.false (sym (c.stands_well-well.ensures m k) ∙ c.if-not-well.false)
-    ∙ ap (raised_by_fetch cpu) (rw c.in-Ok-Insn.field-0-is at c.in-Ok-Insn.ensures.fetched) in
+    ∙ ap (raised_by_fetch cpu) (rw c.in-Insn.is at c.in-Ok.ensures.fetched) in
     c.carry_out_at.ensures.raised ∙ sym goes
 
 pub returns-in-Err-clause-raised : goal.returns-in-Err-clause-raised
@@ -68,11 +68,11 @@ returns-then-not-well-clause-raised g c = λ m k.
     c.requires.fresh
     ∙ sym (raises_nowhere m c.args.worked.now.cpu (g.M.GuestMem.space c.args.mem.now) c.if-worked.false (sym (c.stands_well-well.ensures m k) ∙ c.if-not-well.true))
 
-pub returns-in-Ok-Insn-clause-leaves : goal.returns-in-Ok-Insn-clause-leaves
-returns-in-Ok-Insn-clause-leaves g c = λ m k.
+pub returns-in-Insn-clause-leaves : goal.returns-in-Insn-clause-leaves
+returns-in-Insn-clause-leaves g c = λ m k.
     let cpu = c.args.worked.now.cpu in
     let goes = leaves_on m cpu (g.M.GuestMem.space c.args.mem.now) c.if-worked.false (sym (c.stands_well-well.ensures m k) ∙ c.if-not-well.false)
-    ∙ ap (left_by_fetch cpu) (rw c.in-Ok-Insn.field-0-is at c.in-Ok-Insn.ensures.fetched) in
+    ∙ ap (left_by_fetch cpu) (rw c.in-Insn.is at c.in-Ok.ensures.fetched) in
     c.carry_out_at.ensures.leaves ∙ sym goes
 
 pub returns-in-Err-clause-leaves : goal.returns-in-Err-clause-leaves
