@@ -8,7 +8,8 @@ use Rattle.afterburner.specs.Sound.{AreApart}
 
 pub apart_sites : (least from to : ℕ) (sites : List Site) → least ≤ from → AreApart from sites to → AreSites least sites
 apart_sites least from to [] le h = tt
-apart_sites least from to (s ∷ sites) le h = (omega (arith, h.0), h.3, apart_sites (s.at + 1) (s.at + s.total) to sites (omega (arith, h.3)) h.4)
+apart_sites least from to (s ∷ sites) le h =
+    (omega (arith, h.0), h.3, apart_sites (s.at + 1) (s.at + s.total) to sites (omega (arith, h.3)) h.4)
 
 ends : (from to : ℕ) (sites : List Site) → AreApart from sites to → from ≤ to
 ends from to [] h = h
@@ -29,4 +30,5 @@ apart_gapped from to (s ∷ sites) small h =
 
 pub apart_inside : (from to : ℕ) (sites : List Site) → AreApart from sites to → All (λ (s : Site). s.at + s.total ≤ to) sites
 apart_inside from to [] h = All-nil _
-apart_inside from to (s ∷ sites) h = All-cons (λ (x : Site). x.at + x.total ≤ to) s sites (ends (s.at + s.total) to sites h.4) (apart_inside (s.at + s.total) to sites h.4)
+apart_inside from to (s ∷ sites) h =
+    All-cons (λ (x : Site). x.at + x.total ≤ to) s sites (ends (s.at + s.total) to sites h.4) (apart_inside (s.at + s.total) to sites h.4)

@@ -13,11 +13,15 @@ use Rattle.afterburner.specs.ObjectSoFar.{ObjectSoFar}
 use Rattle.afterburner.specs.Reasons.{IsReason}
 
 -- each refusal has its condition
-pub statement_reason : (names : List (List ℕ)) (st : ObjectSoFar) (rep : Bool) (name : List ℕ) (args : List Argument) (r : Refusal) → assembled rep name args ≡ Err r → IsReason names st (body.Instruction rep name args) (cause_of r)
-statement_reason names st rep name args refusal.UnknownInstruction e = IsReason.unknown_name (refused_reason rep name args refusal.UnknownInstruction e)
-statement_reason names st rep name args refusal.RefusedInstruction e = IsReason.refused_name (refused_reason rep name args refusal.RefusedInstruction e)
+pub statement_reason : (names : List (List ℕ)) (st : ObjectSoFar) (rep : Bool) (name : List ℕ) (args : List Argument) (r : Refusal)
+    → assembled rep name args ≡ Err r → IsReason names st (body.Instruction rep name args) (cause_of r)
+statement_reason names st rep name args refusal.UnknownInstruction e =
+    IsReason.unknown_name (refused_reason rep name args refusal.UnknownInstruction e)
+statement_reason names st rep name args refusal.RefusedInstruction e =
+    IsReason.refused_name (refused_reason rep name args refusal.RefusedInstruction e)
 statement_reason names st rep name args refusal.Operands e = IsReason.no_row (refused_reason rep name args refusal.Operands e)
-statement_reason names st rep name args refusal.ValueRange e = let both = refused_reason rep name args refusal.ValueRange e in IsReason.number both.1
+statement_reason names st rep name args refusal.ValueRange e =
+    let both = refused_reason rep name args refusal.ValueRange e in IsReason.number both.1
 
 -- ---- where a condition holds, its cause or a lower one is reported
 

@@ -22,14 +22,17 @@ first_counted true s rest e = refl
 first_counted false s rest e = cc
 
 -- among the symbols of one reach, the symbol of a name of that reach
-among : (g : Bool) (names : List (List ℕ)) (ds : List Definition) (k : ℕ) (name : List ℕ) → length names ≡ length ds → slice_get names k ≡ Some name → defines g (definition_of ds k) ≡ true
+among : (g : Bool) (names : List (List ℕ)) (ds : List Definition) (k : ℕ) (name : List ℕ) → length names ≡ length ds
+    → slice_get names k ≡ Some name → defines g (definition_of ds k) ≡ true
     → slice_get (filter (are g) (symbols_seen names ds)) (count_by (defines g) (take k ds)) ≡ Some (symbol name (definition_of ds k))
 among g [] ds k name same is of_it = cc
 among g (n ∷ names) [] k name same is of_it = absurd (omega arith)
 among g (n ∷ names) (d ∷ ds) zero name same is of_it =
-    first_counted (defines g d) (symbol n d) (filter (are g) (symbols_seen names ds)) of_it ∙ ap (λ (x : List ℕ). Some (symbol x d)) (some_inj is)
+    first_counted (defines g d) (symbol n d) (filter (are g) (symbols_seen names ds)) of_it
+    ∙ ap (λ (x : List ℕ). Some (symbol x d)) (some_inj is)
 among g (n ∷ names) (d ∷ ds) (suc k) name same is of_it =
-    ap (slice_get (cond (defines g d) (symbol n d ∷ filter (are g) (symbols_seen names ds)) (filter (are g) (symbols_seen names ds)))) (sum_by-cons (λ (x : Definition). cond (defines g x) 1 0) d (take k ds))
+    ap (slice_get (cond (defines g d) (symbol n d ∷ filter (are g) (symbols_seen names ds)) (filter (are g) (symbols_seen names ds))))
+    (sum_by-cons (λ (x : Definition). cond (defines g x) 1 0) d (take k ds))
     ∙ counted (defines g d) (symbol n d) (filter (are g) (symbols_seen names ds)) (count_by (defines g) (take k ds))
     ∙ among g names ds k name (omega arith) is of_it
 
@@ -37,12 +40,14 @@ length_on : (b : Bool) (s : Symbol) (rest : List Symbol) (c : ℕ) → length re
 length_on true s rest c e = omega (arith, e)
 length_on false s rest c e = omega (arith, e)
 
-how_many : (g : Bool) (names : List (List ℕ)) (ds : List Definition) → length names ≡ length ds → length (filter (are g) (symbols_seen names ds)) ≡ count_by (defines g) ds
+how_many : (g : Bool) (names : List (List ℕ)) (ds : List Definition) → length names ≡ length ds
+    → length (filter (are g) (symbols_seen names ds)) ≡ count_by (defines g) ds
 how_many g [] [] same = refl
 how_many g [] (d ∷ ds) same = absurd (omega arith)
 how_many g (n ∷ names) [] same = absurd (omega arith)
 how_many g (n ∷ names) (d ∷ ds) same =
-    length_on (defines g d) (symbol n d) (filter (are g) (symbols_seen names ds)) (count_by (defines g) ds) (how_many g names ds (omega arith))
+    length_on (defines g d) (symbol n d) (filter (are g) (symbols_seen names ds)) (count_by (defines g) ds)
+    (how_many g names ds (omega arith))
     ∙ sym (sum_by-cons (λ (x : Definition). cond (defines g x) 1 0) d ds)
 
 -- in the first of two lists, and in the second
@@ -59,19 +64,24 @@ in_second (x ∷ xs) ys i =
     let e : suc (length xs) + i ≡ suc (length xs + i) = omega arith in
     ap (slice_get (x ∷ (xs ++ ys))) e ∙ in_second xs ys i
 
-by_reach : (b : Bool) (names : List (List ℕ)) (ds : List Definition) (k : ℕ) (name : List ℕ) → is_global (definition_of ds k) ≡ b → length names ≡ length ds → slice_get names k ≡ Some name
-    → slice_get (filter (are false) (symbols_seen names ds) ++ filter (are true) (symbols_seen names ds)) (cond b (count_by (defines false) ds + count_by (defines true) (take k ds)) (count_by (defines false) (take k ds)))
+by_reach : (b : Bool) (names : List (List ℕ)) (ds : List Definition) (k : ℕ) (name : List ℕ) → is_global (definition_of ds k) ≡ b
+    → length names ≡ length ds → slice_get names k ≡ Some name
+    → slice_get (filter (are false) (symbols_seen names ds) ++ filter (are true) (symbols_seen names ds))
+    (cond b (count_by (defines false) ds + count_by (defines true) (take k ds)) (count_by (defines false) (take k ds)))
     ≡ Some (symbol name (definition_of ds k))
 by_reach true names ds k name reach same is =
     let seen = symbols_seen names ds in
-    ap (λ (n : ℕ). slice_get (filter (are false) seen ++ filter (are true) seen) (n + count_by (defines true) (take k ds))) (sym (how_many false names ds same))
+    ap (λ (n : ℕ). slice_get (filter (are false) seen ++ filter (are true) seen) (n + count_by (defines true) (take k ds)))
+    (sym (how_many false names ds same))
     ∙ in_second (filter (are false) seen) (filter (are true) seen) (count_by (defines true) (take k ds))
     ∙ among true names ds k name same is reach
 by_reach false names ds k name reach same is =
-    in_first (filter (are false) (symbols_seen names ds)) (filter (are true) (symbols_seen names ds)) (count_by (defines false) (take k ds)) (symbol name (definition_of ds k))
+    in_first (filter (are false) (symbols_seen names ds)) (filter (are true) (symbols_seen names ds)) (count_by (defines false) (take k ds))
+    (symbol name (definition_of ds k))
     (among false names ds k name same is (ap not reach))
 
-pub stands_at : (names : List (List ℕ)) (ds : List Definition) (k : ℕ) (name : List ℕ) → length names ≡ length ds → slice_get names k ≡ Some name
+pub stands_at : (names : List (List ℕ)) (ds : List Definition) (k : ℕ) (name : List ℕ) → length names ≡ length ds
+    → slice_get names k ≡ Some name
     → slice_get (ordered (symbols_seen names ds)) (ordered_number ds k) ≡ Some (symbol name (definition_of ds k))
 unfolding ordered ordered_number
 stands_at names ds k name same is = by_reach (is_global (definition_of ds k)) names ds k name refl same is

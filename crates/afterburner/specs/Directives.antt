@@ -59,12 +59,14 @@ strings st ended args = in_init st (record st { init = st.init ++ flat_map (stri
 -- zero bytes; too many are not made first
 abbrev pub zeros_in : ObjectSoFar → Section → ℕ → Result ObjectSoFar BurnCause
 zeros_in st section.Text n = Err cause.DataInText
-zeros_in st section.Init n = if nat_lt INIT_LIMIT (length st.init + st.bss + n) then Err cause.InitTooLarge else Ok (record st { init = st.init ++ replicate n 0 })
+zeros_in st section.Init n =
+    if nat_lt INIT_LIMIT (length st.init + st.bss + n) then Err cause.InitTooLarge else Ok (record st { init = st.init ++ replicate n 0 })
 zeros_in st section.Bss n = Ok (record st { bss = st.bss + n })
 
 -- `.comm NAME,SIZE[,ALIGN]`: global, unless a `.local` or a `.globl` speaks of the name
 unfoldable pub common : List (List ℕ) → ObjectSoFar → List Argument → ObjectSoFar
-common names st args = bound names (reserved names st (symbol_at args 0) (count_at args 1) (alignment (unwrap_or (limit_at args 2) 1))) (symbol_at args 0) binding.Common
+common names st args = bound names (reserved names st (symbol_at args 0) (count_at args 1) (alignment (unwrap_or (limit_at args 2) 1)))
+    (symbol_at args 0) binding.Common
 
 unfoldable pub directed : List (List ℕ) → ObjectSoFar → DirectiveName → List Argument → Result ObjectSoFar BurnCause
 directed names st directive.Text args = Ok (entered st section.Text)

@@ -27,4 +27,14 @@ undefined = record { place = place.Undefined; value = 0; binding = binding.Unsai
 
 -- A source begins in text, with nothing made, and none of its names is defined.
 abbrev pub fresh : List (List ℕ) → ObjectSoFar
-fresh names = record { section = section.Text; after_sti = false; text = []; init = []; bss = 0; sites = []; text_relocs = []; data_relocs = []; definitions = replicate (length names) undefined }
+fresh names = record {
+  section = section.Text;
+  after_sti = false;
+  text = [];
+  init = [];
+  bss = 0;
+  sites = [];
+  text_relocs = [];
+  data_relocs = [];
+  definitions = replicate (length names) undefined;
+}

@@ -38,18 +38,30 @@ gives_data _ = false
 -- for what names a symbol; for a number that doesn't fit its field; or for what may not stand in its section. Or what it makes is
 -- too large.
 pub data IsReason (names : List (List ℕ)) (st : ObjectSoFar) : Body → BurnCause → Type 0 where
-  unknown_name : {rep : Bool} {name : List ℕ} {args : List Argument} → IsUnknown name → IsReason names st (body.Instruction rep name args) cause.UnknownInstruction
-  refused_name : {rep : Bool} {name : List ℕ} {args : List Argument} → IsRefused name → IsReason names st (body.Instruction rep name args) cause.RefusedInstruction
-  no_row : {rep : Bool} {name : List ℕ} {args : List Argument} → IsWithoutRow rep name args → IsReason names st (body.Instruction rep name args) cause.Operands
-  number : {rep : Bool} {name : List ℕ} {args : List Argument} → HasUnfitNumber rep name args → IsReason names st (body.Instruction rep name args) cause.ValueRange
-  instruction_outside : {rep : Bool} {name : List ℕ} {args : List Argument} → is_text st.section ≡ false → IsReason names st (body.Instruction rep name args) cause.DataInText
-  range : {name : List ℕ} {args : List Argument} (w : Size) → given_size (directive_of name) ≡ Some w → all_fit w args ≡ false → IsReason names st (body.Directive name args) cause.ValueRange
-  data_outside : {name : List ℕ} {args : List Argument} → gives_data (directive_of name) ≡ true → is_init st.section ≡ false → IsReason names st (body.Directive name args) cause.DataInText
-  zeros_in_text : {name : List ℕ} {args : List Argument} → directive_of name ≡ directive.Zeros → is_text st.section ≡ true → IsReason names st (body.Directive name args) cause.DataInText
-  many_zeros : {name : List ℕ} {args : List Argument} → directive_of name ≡ directive.Zeros → is_init st.section ≡ true → INIT_LIMIT < length st.init + st.bss + count_at args 0 → IsReason names st (body.Directive name args) cause.InitTooLarge
-  long_text : {b : Body} (new : ObjectSoFar) → made names st b ≡ Ok new → TEXT_LIMIT < length new.text → IsReason names st b cause.TextTooLarge
-  large_data : {b : Body} (new : ObjectSoFar) → made names st b ≡ Ok new → INIT_LIMIT < length new.init + new.bss → IsReason names st b cause.InitTooLarge
-  many_sites : {b : Body} (new : ObjectSoFar) → made names st b ≡ Ok new → SITE_LIMIT < length new.sites → IsReason names st b cause.TooManySites
+  unknown_name : {rep : Bool} {name : List ℕ} {args : List Argument} → IsUnknown name → IsReason names st (body.Instruction rep name args)
+      cause.UnknownInstruction
+  refused_name : {rep : Bool} {name : List ℕ} {args : List Argument} → IsRefused name → IsReason names st (body.Instruction rep name args)
+      cause.RefusedInstruction
+  no_row : {rep : Bool} {name : List ℕ} {args : List Argument} → IsWithoutRow rep name args
+      → IsReason names st (body.Instruction rep name args) cause.Operands
+  number : {rep : Bool} {name : List ℕ} {args : List Argument} → HasUnfitNumber rep name args
+      → IsReason names st (body.Instruction rep name args) cause.ValueRange
+  instruction_outside : {rep : Bool} {name : List ℕ} {args : List Argument} → is_text st.section ≡ false
+      → IsReason names st (body.Instruction rep name args) cause.DataInText
+  range : {name : List ℕ} {args : List Argument} (w : Size) → given_size (directive_of name) ≡ Some w → all_fit w args ≡ false
+      → IsReason names st (body.Directive name args) cause.ValueRange
+  data_outside : {name : List ℕ} {args : List Argument} → gives_data (directive_of name) ≡ true → is_init st.section ≡ false
+      → IsReason names st (body.Directive name args) cause.DataInText
+  zeros_in_text : {name : List ℕ} {args : List Argument} → directive_of name ≡ directive.Zeros → is_text st.section ≡ true
+      → IsReason names st (body.Directive name args) cause.DataInText
+  many_zeros : {name : List ℕ} {args : List Argument} → directive_of name ≡ directive.Zeros → is_init st.section ≡ true
+      → INIT_LIMIT < length st.init + st.bss + count_at args 0 → IsReason names st (body.Directive name args) cause.InitTooLarge
+  long_text : {b : Body} (new : ObjectSoFar) → made names st b ≡ Ok new → TEXT_LIMIT < length new.text
+      → IsReason names st b cause.TextTooLarge
+  large_data : {b : Body} (new : ObjectSoFar) → made names st b ≡ Ok new → INIT_LIMIT < length new.init + new.bss
+      → IsReason names st b cause.InitTooLarge
+  many_sites : {b : Body} (new : ObjectSoFar) → made names st b ≡ Ok new → SITE_LIMIT < length new.sites
+      → IsReason names st b cause.TooManySites
 
 -- The condition of this cause holds of the item, and that of no cause with a lower number.
 pub record IsLowestReason (names : List (List ℕ)) (st : ObjectSoFar) (b : Body) (c : BurnCause) : Type 0 where

@@ -11,7 +11,8 @@ use Rattle.afterburner.specs.Reasons.{IsLowestReason}
 
 -- The items before it are made without a refusal, and after them the condition of this cause holds of the item of this line,
 -- and that of no lower one.
-pub record IsFirstRefused (names : List (List ℕ)) (start : ObjectSoFar) (items : List SourceItem) (line : ℕ) (cause : BurnCause) : Type 0 where
+pub record IsFirstRefused (names : List (List ℕ)) (start : ObjectSoFar) (items : List SourceItem) (line : ℕ)
+    (cause : BurnCause) : Type 0 where
   pub before : List SourceItem
   pub item : SourceItem
   pub after : List SourceItem

@@ -29,7 +29,8 @@ with_binding ds k b = slice_set ds k (record (definition_of ds k) { binding = st
 -- the relocation of a field, where it names a symbol
 abbrev pub reloc_to : List (List ℕ) → Bool → ℕ → Bool → Option (List ℕ) → List Reloc
 reloc_to names in_text at relative None = []
-reloc_to names in_text at relative (Some name) = record { in_text = in_text; at = at; symbol = name_number names name; relative = relative } ∷ []
+reloc_to names in_text at relative (Some name) =
+    record { in_text = in_text; at = at; symbol = name_number names name; relative = relative } ∷ []
 
 -- the name is defined at this place
 abbrev pub defined_at : List (List ℕ) → List Definition → List ℕ → Place → ℕ → List Definition

@@ -26,7 +26,8 @@ ok p = Ok p
 pub next_default : (sh : Shape) (p : Partial) (s : Terminal)
     → (p ≡ partial.Nothing → ⊥) → (p ≡ partial.Absent → ⊥) → (p ≡ partial.Percent → ⊥) → (p ≡ partial.Dollar → ⊥)
     → ((a : ValuePlace) → p ≡ partial.Minus a → ⊥) → ((a : ValuePlace) (n : List ℕ) → p ≡ partial.Name a n → ⊥)
-    → ((a : ValuePlace) (n : List ℕ) (b : Bool) → p ≡ partial.Sign a n b → ⊥) → ((a : ValuePlace) (n : List ℕ) (b : Bool) → p ≡ partial.SignMinus a n b → ⊥)
+    → ((a : ValuePlace) (n : List ℕ) (b : Bool) → p ≡ partial.Sign a n b → ⊥)
+    → ((a : ValuePlace) (n : List ℕ) (b : Bool) → p ≡ partial.SignMinus a n b → ⊥)
     → ((a : ValuePlace) (v : Value) → p ≡ partial.Number a v → ⊥)
     → next_terminal sh p s ≡ address_step p s
 next_default sh partial.Nothing s h1 h0 h2 h3 h4 h5 h6 h7 h8 = absurd (h1 refl)
@@ -45,11 +46,14 @@ abbrev pub operand_run : Shape → Partial → List Terminal → Result Partial 
 operand_run sh p [] = Ok p
 operand_run sh p (s ∷ ss) = elim (next_terminal sh p s) [ Ok q ↦ operand_run sh q ss | Err c ↦ Err c ]
 
-pub run_append : (sh : Shape) (p q : Partial) (ss ts : List Terminal) → operand_run sh p ss ≡ Ok q → operand_run sh p (ss ++ ts) ≡ operand_run sh q ts
+pub run_append : (sh : Shape) (p q : Partial) (ss ts : List Terminal) → operand_run sh p ss ≡ Ok q
+    → operand_run sh p (ss ++ ts) ≡ operand_run sh q ts
 run_append sh p q [] ts h = let e : p ≡ q = cc in rw e refl
 run_append sh p q (s ∷ ss) ts h = by_step (next_terminal sh p s) h (λ n e. run_append sh n q ss ts e)
   where
-    by_step : (r : Result Partial SourceCause) → ◌≡◌ {A = Result Partial SourceCause} (elim r [ Ok n ↦ operand_run sh n ss | Err c ↦ Err c ]) (Ok q) → ((n : Partial) → operand_run sh n ss ≡ Ok q → operand_run sh n (ss ++ ts) ≡ operand_run sh q ts)
+    by_step : (r : Result Partial SourceCause)
+        → ◌≡◌ {A = Result Partial SourceCause} (elim r [ Ok n ↦ operand_run sh n ss | Err c ↦ Err c ]) (Ok q)
+        → ((n : Partial) → operand_run sh n ss ≡ Ok q → operand_run sh n (ss ++ ts) ≡ operand_run sh q ts)
         → ◌≡◌ {A = Result Partial SourceCause} (elim r [ Ok n ↦ operand_run sh n (ss ++ ts) | Err c ↦ Err c ]) (operand_run sh q ts)
     by_step (Ok n) h ih = ih n h
     by_step (Err c) h ih = absurd cc
@@ -60,7 +64,8 @@ pub record Reads (sh : Shape) (ss : List Terminal) (f : Form) : Type 0 where
   pub runs : operand_run sh (begun sh) ss ≡ Ok last
   pub ends : finished last ≡ Some f
 
-operand_takes : (sh : Shape) → is_operand sh ≡ true → (takes_numbers sh ≡ true) × (takes_minus sh ≡ true) × (takes_names sh ≡ true) × (takes_sums sh ≡ true)
+operand_takes : (sh : Shape) → is_operand sh ≡ true → (takes_numbers sh ≡ true) × (takes_minus sh ≡ true) × (takes_names sh ≡ true)
+    × (takes_sums sh ≡ true)
 operand_takes shape.Operand h = (refl, refl, refl, refl)
 operand_takes shape.Value h = absurd cc
 operand_takes shape.Number h = absurd cc
@@ -72,8 +77,10 @@ operand_takes shape.Power h = absurd cc
 operand_takes shape.Fill h = absurd cc
 
 -- what has been read from nothing and may end is read where an argument begins
-from_nothing : (sh : Shape) (ss : List Terminal) (q : Partial) (f : Form) → operand_run sh partial.Nothing ss ≡ Ok q → finished q ≡ Some f → operand_run sh (begun sh) ss ≡ Ok q
-from_nothing shape.Fill [] q f h e = let g : partial.Nothing ≡ q = cc in let k : finished partial.Nothing ≡ Some f = ap finished g ∙ e in absurd cc
+from_nothing : (sh : Shape) (ss : List Terminal) (q : Partial) (f : Form) → operand_run sh partial.Nothing ss ≡ Ok q → finished q ≡ Some f
+    → operand_run sh (begun sh) ss ≡ Ok q
+from_nothing shape.Fill [] q f h e = let g : partial.Nothing ≡ q =
+    cc in let k : finished partial.Nothing ≡ Some f = ap finished g ∙ e in absurd cc
 from_nothing shape.Fill (s ∷ ss) q f h e = h
 from_nothing _ ss q f h e = h
 
@@ -103,25 +110,35 @@ start_of_value place.Memory = partial.Nothing
 abbrev IsDone : ValuePlace → Value → Partial → Type 0
 IsDone p v q = (q ≡ partial.Number p v) ⊎ ((n : List ℕ) × (q ≡ partial.Name p n) × (v ≡ named n (pos 0)))
 
-constant_runs : (sh : Shape) (p : ValuePlace) (n : List ℕ) (neg : Bool) (ss : List Terminal) (z : ℤ) → IsConstant neg ss z → operand_run sh (partial.Sign p n neg) ss ≡ Ok (partial.Number p (named n z))
+constant_runs : (sh : Shape) (p : ValuePlace) (n : List ℕ) (neg : Bool) (ss : List Terminal) (z : ℤ) → IsConstant neg ss z
+    → operand_run sh (partial.Sign p n neg) ss ≡ Ok (partial.Number p (named n z))
 constant_runs sh p n neg ss z IsConstant.bare = refl
 constant_runs sh p n true ss z (IsConstant.minus low) = rw (low, operand_run) refl
 constant_runs sh p n false ss z (IsConstant.minus low) = rw (low, operand_run) refl
 
-value_runs : (sh : Shape) (p : ValuePlace) (ss : List Terminal) (v : Value) → IsValue sh ss v → (q : Partial) × (operand_run sh (start_of_value p) ss ≡ Ok q) × IsDone p v q
-value_runs sh place.Memory ss v (IsValue.number {n} t u) = (partial.Number place.Memory (plain (pos n)), rw (t, u, operand_run) refl, inl refl)
-value_runs sh place.Memory ss v (IsValue.negative {n} t low u) = (partial.Number place.Memory (plain (signed true n)), rw (t, low, u, operand_run) refl, inl refl)
+value_runs : (sh : Shape) (p : ValuePlace) (ss : List Terminal) (v : Value) → IsValue sh ss v → (q : Partial)
+    × (operand_run sh (start_of_value p) ss ≡ Ok q) × IsDone p v q
+value_runs sh place.Memory ss v (IsValue.number {n} t u) =
+    (partial.Number place.Memory (plain (pos n)), rw (t, u, operand_run) refl, inl refl)
+value_runs sh place.Memory ss v (IsValue.negative {n} t low u) =
+    (partial.Number place.Memory (plain (signed true n)), rw (t, low, u, operand_run) refl, inl refl)
 value_runs sh place.Memory ss v (IsValue.name {n} t) = (partial.Name place.Memory n, rw (t, operand_run) refl, inr (n, refl, refl))
-value_runs sh place.Memory ss v (IsValue.sum {n} {ss = rest} {z} t u c) = (partial.Number place.Memory (named n z), rw (t, u, operand_run) (constant_runs sh place.Memory n false rest z c), inl refl)
-value_runs sh place.Memory ss v (IsValue.difference {n} {ss = rest} {z} t u c) = (partial.Number place.Memory (named n z), rw (t, u, operand_run) (constant_runs sh place.Memory n true rest z c), inl refl)
+value_runs sh place.Memory ss v (IsValue.sum {n} {ss = rest} {z} t u c) =
+    (partial.Number place.Memory (named n z), rw (t, u, operand_run) (constant_runs sh place.Memory n false rest z c), inl refl)
+value_runs sh place.Memory ss v (IsValue.difference {n} {ss = rest} {z} t u c) =
+    (partial.Number place.Memory (named n z), rw (t, u, operand_run) (constant_runs sh place.Memory n true rest z c), inl refl)
 value_runs sh place.Immediate ss v (IsValue.number {n} t u) = (partial.Number place.Immediate (plain (pos n)), refl, inl refl)
-value_runs sh place.Immediate ss v (IsValue.negative {n} t low u) = (partial.Number place.Immediate (plain (signed true n)), rw (low, u, operand_run) refl, inl refl)
+value_runs sh place.Immediate ss v (IsValue.negative {n} t low u) =
+    (partial.Number place.Immediate (plain (signed true n)), rw (low, u, operand_run) refl, inl refl)
 value_runs sh place.Immediate ss v (IsValue.name {n} t) = (partial.Name place.Immediate n, refl, inr (n, refl, refl))
-value_runs sh place.Immediate ss v (IsValue.sum {n} {ss = rest} {z} t u c) = (partial.Number place.Immediate (named n z), rw (u, operand_run) (constant_runs sh place.Immediate n false rest z c), inl refl)
-value_runs sh place.Immediate ss v (IsValue.difference {n} {ss = rest} {z} t u c) = (partial.Number place.Immediate (named n z), rw (u, operand_run) (constant_runs sh place.Immediate n true rest z c), inl refl)
+value_runs sh place.Immediate ss v (IsValue.sum {n} {ss = rest} {z} t u c) =
+    (partial.Number place.Immediate (named n z), rw (u, operand_run) (constant_runs sh place.Immediate n false rest z c), inl refl)
+value_runs sh place.Immediate ss v (IsValue.difference {n} {ss = rest} {z} t u c) =
+    (partial.Number place.Immediate (named n z), rw (u, operand_run) (constant_runs sh place.Immediate n true rest z c), inl refl)
 
 -- the parentheses after a value or nothing
-address_runs : (sh : Shape) (v : Option Value) (ss : List Terminal) (b i : Option (List ℕ)) (s : ℕ) → IsAddress (terminal.Open ∷ ss) b i s → operand_run sh (partial.Open v) ss ≡ Ok (partial.Whole (form.Memory v b i s))
+address_runs : (sh : Shape) (v : Option Value) (ss : List Terminal) (b i : Option (List ℕ)) (s : ℕ) → IsAddress (terminal.Open ∷ ss) b i s
+    → operand_run sh (partial.Open v) ss ≡ Ok (partial.Whole (form.Memory v b i s))
 address_runs sh v ss b i s (IsAddress.base r) = rw (r, operand_run) refl
 address_runs sh v ss b i s (IsAddress.index r) = rw (r, operand_run) refl
 address_runs sh v ss b i s (IsAddress.scaled r t) = rw (r, t, operand_run) refl
@@ -140,29 +157,59 @@ finished_value p v q (inl e) = rw e refl
 finished_value place.Memory v q (inr (n, e, f)) = rw (e, f) refl
 finished_value place.Immediate v q (inr (n, e, f)) = rw (e, f) refl
 
-opens_value : (sh : Shape) (v : Value) (q : Partial) → is_operand sh ≡ true → IsDone place.Memory v q → next_terminal sh q terminal.Open ≡ Ok (partial.Open (Some v))
+opens_value : (sh : Shape) (v : Value) (q : Partial) → is_operand sh ≡ true → IsDone place.Memory v q
+    → next_terminal sh q terminal.Open ≡ Ok (partial.Open (Some v))
 opens_value sh v q t (inl e) = rw (e, t) refl
 opens_value sh v q t (inr (n, e, f)) = rw (e, f, t) refl
 
 pub form_reads : (sh : Shape) (ss : List Terminal) (f : Form) → IsForm sh ss f → Reads sh ss f
 form_reads sh ss f (IsForm.absent h) = record { last = partial.Absent; runs = ap (λ (p : Partial). ok p) (absent_begun sh h); ends = refl }
-form_reads sh ss f (IsForm.text {t} h) = record { last = partial.Whole (form.Text t); runs = from_nothing sh ss (partial.Whole (form.Text t)) f (rw (h, operand_run) refl) refl; ends = refl }
-form_reads sh ss f (IsForm.register {r} h g) = record { last = partial.Whole (form.Register r); runs = from_nothing sh ss (partial.Whole (form.Register r)) f (rw (h, g, operand_run) refl) refl; ends = refl }
+form_reads sh ss f (IsForm.text {t} h) = record {
+  last = partial.Whole (form.Text t);
+  runs = from_nothing sh ss (partial.Whole (form.Text t)) f (rw (h, operand_run) refl) refl;
+  ends = refl;
+}
+form_reads sh ss f (IsForm.register {r} h g) = record {
+  last = partial.Whole (form.Register r);
+  runs = from_nothing sh ss (partial.Whole (form.Register r)) f (rw (h, g, operand_run) refl) refl;
+  ends = refl;
+}
 form_reads sh ss f (IsForm.immediate {ss = vs} {v} h val) =
     let r = value_runs sh place.Immediate vs v val in
-    record { last = r.0; runs = from_nothing sh ss r.0 f (rw (h, operand_run) r.1) (finished_value place.Immediate v r.0 r.2); ends = finished_value place.Immediate v r.0 r.2 }
+    record {
+      last = r.0;
+      runs = from_nothing sh ss r.0 f (rw (h, operand_run) r.1) (finished_value place.Immediate v r.0 r.2);
+      ends = finished_value place.Immediate v r.0 r.2;
+    }
 form_reads sh ss f (IsForm.value {v} val) =
     let r = value_runs sh place.Memory ss v val in
-    record { last = r.0; runs = from_nothing sh ss r.0 f r.1 (finished_value place.Memory v r.0 r.2); ends = finished_value place.Memory v r.0 r.2 }
+    record {
+      last = r.0;
+      runs = from_nothing sh ss r.0 f r.1 (finished_value place.Memory v r.0 r.2);
+      ends = finished_value place.Memory v r.0 r.2;
+    }
 form_reads sh ss f (IsForm.address {b} {i} {s} h a) = from_open ss (address_opens ss a) a
   where
-    from_open : (ss : List Terminal) → (ts : List Terminal) × (ss ≡ terminal.Open ∷ ts) → IsAddress ss b i s → Reads sh ss (form.Memory None b i s)
-    from_open ss (ts, e) a = record { last = partial.Whole (form.Memory None b i s); runs = from_nothing sh ss (partial.Whole (form.Memory None b i s)) (form.Memory None b i s) (rw (e, h, operand_run) (address_runs sh None ts b i s (subst (λ (x : List Terminal). IsAddress x b i s) e a))) refl; ends = refl }
+    from_open : (ss : List Terminal) → (ts : List Terminal) × (ss ≡ terminal.Open ∷ ts) → IsAddress ss b i s
+        → Reads sh ss (form.Memory None b i s)
+    from_open ss (ts, e) a = record {
+      last = partial.Whole (form.Memory None b i s);
+      runs = from_nothing sh ss (partial.Whole (form.Memory None b i s)) (form.Memory None b i s)
+          (rw (e, h, operand_run) (address_runs sh None ts b i s (subst (λ (x : List Terminal). IsAddress x b i s) e a))) refl;
+      ends = refl;
+    }
 form_reads sh ss f (IsForm.value_address {v} {b} {i} {s} vs ps h e val a) =
     let r = value_runs sh place.Memory vs v val in
     let o = address_opens ps a in
-    let tail : operand_run sh r.0 ps ≡ Ok (partial.Whole (form.Memory (Some v) b i s)) = ap (operand_run sh r.0) o.1 ∙ (rw (opens_value sh v r.0 h r.2, operand_run) (address_runs sh (Some v) o.0 b i s (subst (λ (x : List Terminal). IsAddress x b i s) o.1 a))) in
-    record { last = partial.Whole (form.Memory (Some v) b i s); runs = from_nothing sh ss (partial.Whole (form.Memory (Some v) b i s)) f (rw e (run_append sh partial.Nothing r.0 vs ps r.1 ∙ tail)) refl; ends = refl }
+    let tail : operand_run sh r.0 ps ≡ Ok (partial.Whole (form.Memory (Some v) b i s)) = ap (operand_run sh r.0) o.1
+    ∙ (rw (opens_value sh v r.0 h r.2, operand_run)
+    (address_runs sh (Some v) o.0 b i s (subst (λ (x : List Terminal). IsAddress x b i s) o.1 a))) in
+    record {
+      last = partial.Whole (form.Memory (Some v) b i s);
+      runs = from_nothing sh ss (partial.Whole (form.Memory (Some v) b i s)) f
+          (rw e (run_append sh partial.Nothing r.0 vs ps r.1 ∙ tail)) refl;
+      ends = refl;
+    }
 
 -- ---- what has been read so far
 
@@ -182,14 +229,17 @@ counted_ok false fit p q h = absurd cc
 pub lowered_ok : (n : ℕ) (fit : Bool) (p q : Partial) → lowered n fit p ≡ ok q → (is_low n ≡ true) × (fit ≡ true) × (p ≡ q)
 lowered_ok n fit p q h = by_test (is_low n) refl h
   where
-    by_test : (t : Bool) → is_low n ≡ t → ◌≡◌ {A = Result Partial SourceCause} (cond t (counted true fit p) (Err cause.BadNumber)) (Ok q) → (is_low n ≡ true) × (fit ≡ true) × (p ≡ q)
+    by_test : (t : Bool) → is_low n ≡ t → ◌≡◌ {A = Result Partial SourceCause} (cond t (counted true fit p) (Err cause.BadNumber)) (Ok q)
+        → (is_low n ≡ true) × (fit ≡ true) × (p ≡ q)
     by_test true e h = let g = counted_ok true fit p q h in (e, g.1, g.2)
     by_test false e h = absurd cc
 
-pub scale_ok : (n : ℕ) (p q : Partial) → ◌≡◌ {A = Result Partial SourceCause} (cond (is_scale n) (Ok p) (Err cause.BadScale)) (Ok q) → (is_scale n ≡ true) × (p ≡ q)
+pub scale_ok : (n : ℕ) (p q : Partial) → ◌≡◌ {A = Result Partial SourceCause} (cond (is_scale n) (Ok p) (Err cause.BadScale)) (Ok q)
+    → (is_scale n ≡ true) × (p ≡ q)
 scale_ok n p q h = by_test (is_scale n) refl h
   where
-    by_test : (t : Bool) → is_scale n ≡ t → ◌≡◌ {A = Result Partial SourceCause} (cond t (Ok p) (Err cause.BadScale)) (Ok q) → (is_scale n ≡ true) × (p ≡ q)
+    by_test : (t : Bool) → is_scale n ≡ t → ◌≡◌ {A = Result Partial SourceCause} (cond t (Ok p) (Err cause.BadScale)) (Ok q)
+        → (is_scale n ≡ true) × (p ≡ q)
     by_test true e h = (e, cc)
     by_test false e h = absurd cc
 
@@ -228,9 +278,13 @@ Inside ov (partial.BasePercent v) ps = (v ≡ ov) × (ps ≡ terminal.Open ∷ t
 Inside ov (partial.Base v b) ps = (v ≡ ov) × (ps ≡ terminal.Open ∷ terminal.Percent ∷ terminal.Name b ∷ []) × (is_register b ≡ true)
 Inside ov (partial.IndexComma v b) ps = (v ≡ ov) × (ps ≡ base_part b) × IsBase b
 Inside ov (partial.IndexPercent v b) ps = (v ≡ ov) × (ps ≡ base_part b ++ terminal.Percent ∷ []) × IsBase b
-Inside ov (partial.Index v b i) ps = (v ≡ ov) × (ps ≡ base_part b ++ terminal.Percent ∷ terminal.Name i ∷ []) × IsBase b × (is_register i ≡ true)
-Inside ov (partial.Scale v b i) ps = (v ≡ ov) × (ps ≡ base_part b ++ terminal.Percent ∷ terminal.Name i ∷ terminal.Comma ∷ []) × IsBase b × (is_register i ≡ true)
-Inside ov (partial.Scaled v b i s) ps = (v ≡ ov) × (ps ≡ base_part b ++ terminal.Percent ∷ terminal.Name i ∷ terminal.Comma ∷ terminal.Number s ∷ []) × IsBase b × (is_register i ≡ true) × (is_scale s ≡ true)
+Inside ov (partial.Index v b i) ps =
+    (v ≡ ov) × (ps ≡ base_part b ++ terminal.Percent ∷ terminal.Name i ∷ []) × IsBase b × (is_register i ≡ true)
+Inside ov (partial.Scale v b i) ps =
+    (v ≡ ov) × (ps ≡ base_part b ++ terminal.Percent ∷ terminal.Name i ∷ terminal.Comma ∷ []) × IsBase b × (is_register i ≡ true)
+Inside ov (partial.Scaled v b i s) ps = (v ≡ ov)
+    × (ps ≡ base_part b ++ terminal.Percent ∷ terminal.Name i ∷ terminal.Comma ∷ terminal.Number s ∷ []) × IsBase b × (is_register i ≡ true)
+    × (is_scale s ≡ true)
 Inside ov (partial.Whole f) ps = (b : Option (List ℕ)) × (i : Option (List ℕ)) × (s : ℕ) × (f ≡ form.Memory ov b i s) × IsAddress ps b i s
 Inside ov _ ps = ⊥
 
@@ -238,43 +292,91 @@ Inside ov _ ps = ⊥
 ending : (ps qs : List Terminal) (s : Terminal) → ps ≡ qs → ps ++ s ∷ [] ≡ qs ++ s ∷ []
 ending ps qs s e = ap (λ (x : List Terminal). x ++ s ∷ []) e
 
-inside_step : (ov : Option Value) (p : Partial) (s : Terminal) (q : Partial) (ps : List Terminal) → Inside ov p ps → address_step p s ≡ ok q → Inside ov q (ps ++ s ∷ [])
-inside_step ov (partial.Open v) terminal.Percent q ps h e = subst (λ (x : Partial). Inside ov x (ps ++ terminal.Percent ∷ [])) (ok_is (partial.BasePercent v) q e) (h.0, ending _ _ _ h.1)
-inside_step ov (partial.Open v) terminal.Comma q ps h e = subst (λ (x : Partial). Inside ov x (ps ++ terminal.Comma ∷ [])) (ok_is (partial.IndexComma v None) q e) (h.0, ending _ _ _ h.1, tt)
+inside_step : (ov : Option Value) (p : Partial) (s : Terminal) (q : Partial) (ps : List Terminal) → Inside ov p ps → address_step p s ≡ ok q
+    → Inside ov q (ps ++ s ∷ [])
+inside_step ov (partial.Open v) terminal.Percent q ps h e =
+    subst (λ (x : Partial). Inside ov x (ps ++ terminal.Percent ∷ [])) (ok_is (partial.BasePercent v) q e) (h.0, ending _ _ _ h.1)
+inside_step ov (partial.Open v) terminal.Comma q ps h e =
+    subst (λ (x : Partial). Inside ov x (ps ++ terminal.Comma ∷ [])) (ok_is (partial.IndexComma v None) q e) (h.0, ending _ _ _ h.1, tt)
 inside_step ov (partial.Open v) _ q ps h e = absurd cc
 inside_step ov (partial.BasePercent v) (terminal.Name r) q ps h e =
     let g = registered_ok (is_register r) (partial.Base v r) q e in
     subst (λ (x : Partial). Inside ov x (ps ++ terminal.Name r ∷ [])) g.1 (h.0, ending _ _ _ h.1, g.0)
 inside_step ov (partial.BasePercent v) _ q ps h e = absurd cc
 inside_step ov (partial.Base v b) terminal.Close q ps h e =
-    subst (λ (x : Partial). Inside ov x (ps ++ terminal.Close ∷ [])) (ok_is (partial.Whole (form.Memory v (Some b) None 1)) q e)
-    (Some b, None, 1, ap (λ (y : Option Value). form.Memory y (Some b) None 1) h.0, subst (λ (y : List Terminal). IsAddress y (Some b) None 1) (sym (ending _ _ terminal.Close h.1)) (IsAddress.base h.2))
-inside_step ov (partial.Base v b) terminal.Comma q ps h e = subst (λ (x : Partial). Inside ov x (ps ++ terminal.Comma ∷ [])) (ok_is (partial.IndexComma v (Some b)) q e) (h.0, ending _ _ _ h.1, h.2)
+    subst (λ (x : Partial). Inside ov x (ps ++ terminal.Close ∷ [])) (ok_is (partial.Whole (form.Memory v (Some b) None 1)) q e) (
+      Some b,
+      None,
+      1,
+      ap (λ (y : Option Value). form.Memory y (Some b) None 1) h.0,
+      subst (λ (y : List Terminal). IsAddress y (Some b) None 1) (sym (ending _ _ terminal.Close h.1)) (IsAddress.base h.2),
+    )
+inside_step ov (partial.Base v b) terminal.Comma q ps h e = subst (λ (x : Partial). Inside ov x (ps ++ terminal.Comma ∷ []))
+    (ok_is (partial.IndexComma v (Some b)) q e) (h.0, ending _ _ _ h.1, h.2)
 inside_step ov (partial.Base v b) _ q ps h e = absurd cc
-inside_step ov (partial.IndexComma v b) terminal.Percent q ps h e = subst (λ (x : Partial). Inside ov x (ps ++ terminal.Percent ∷ [])) (ok_is (partial.IndexPercent v b) q e) (h.0, ending _ _ _ h.1, h.2)
+inside_step ov (partial.IndexComma v b) terminal.Percent q ps h e =
+    subst (λ (x : Partial). Inside ov x (ps ++ terminal.Percent ∷ [])) (ok_is (partial.IndexPercent v b) q e) (h.0, ending _ _ _ h.1, h.2)
 inside_step ov (partial.IndexComma v b) _ q ps h e = absurd cc
 inside_step ov (partial.IndexPercent v b) (terminal.Name r) q ps h e =
     let g = registered_ok (is_register r) (partial.Index v b r) q e in
-    subst (λ (x : Partial). Inside ov x (ps ++ terminal.Name r ∷ [])) g.1 (h.0, ending _ _ _ h.1 ∙ append_assoc (base_part b) (terminal.Percent ∷ []) (terminal.Name r ∷ []), h.2, g.0)
+    subst (λ (x : Partial). Inside ov x (ps ++ terminal.Name r ∷ [])) g.1 (
+      h.0,
+      ending _ _ _ h.1 ∙ append_assoc (base_part b) (terminal.Percent ∷ []) (terminal.Name r ∷ []),
+      h.2,
+      g.0,
+    )
 inside_step ov (partial.IndexPercent v b) _ q ps h e = absurd cc
 inside_step ov (partial.Index v None i) terminal.Close q ps h e =
-    subst (λ (x : Partial). Inside ov x (ps ++ terminal.Close ∷ [])) (ok_is (partial.Whole (form.Memory v None (Some i) 1)) q e)
-    (None, Some i, 1, ap (λ (y : Option Value). form.Memory y None (Some i) 1) h.0, subst (λ (y : List Terminal). IsAddress y None (Some i) 1) (sym (ending _ _ terminal.Close h.1)) (IsAddress.index h.3))
+    subst (λ (x : Partial). Inside ov x (ps ++ terminal.Close ∷ [])) (ok_is (partial.Whole (form.Memory v None (Some i) 1)) q e) (
+      None,
+      Some i,
+      1,
+      ap (λ (y : Option Value). form.Memory y None (Some i) 1) h.0,
+      subst (λ (y : List Terminal). IsAddress y None (Some i) 1) (sym (ending _ _ terminal.Close h.1)) (IsAddress.index h.3),
+    )
 inside_step ov (partial.Index v (Some b) i) terminal.Close q ps h e =
-    subst (λ (x : Partial). Inside ov x (ps ++ terminal.Close ∷ [])) (ok_is (partial.Whole (form.Memory v (Some b) (Some i) 1)) q e)
-    (Some b, Some i, 1, ap (λ (y : Option Value). form.Memory y (Some b) (Some i) 1) h.0, subst (λ (y : List Terminal). IsAddress y (Some b) (Some i) 1) (sym (ending _ _ terminal.Close h.1)) (IsAddress.base_index h.2 h.3))
-inside_step ov (partial.Index v b i) terminal.Comma q ps h e = subst (λ (x : Partial). Inside ov x (ps ++ terminal.Comma ∷ [])) (ok_is (partial.Scale v b i) q e) (h.0, ending _ _ _ h.1 ∙ append_assoc (base_part b) (terminal.Percent ∷ terminal.Name i ∷ []) (terminal.Comma ∷ []), h.2, h.3)
+    subst (λ (x : Partial). Inside ov x (ps ++ terminal.Close ∷ [])) (ok_is (partial.Whole (form.Memory v (Some b) (Some i) 1)) q e) (
+      Some b,
+      Some i,
+      1,
+      ap (λ (y : Option Value). form.Memory y (Some b) (Some i) 1) h.0,
+      subst (λ (y : List Terminal). IsAddress y (Some b) (Some i) 1) (sym (ending _ _ terminal.Close h.1)) (IsAddress.base_index h.2 h.3),
+    )
+inside_step ov (partial.Index v b i) terminal.Comma q ps h e = subst (λ (x : Partial). Inside ov x (ps ++ terminal.Comma ∷ []))
+    (ok_is (partial.Scale v b i) q e) (
+      h.0,
+      ending _ _ _ h.1 ∙ append_assoc (base_part b) (terminal.Percent ∷ terminal.Name i ∷ []) (terminal.Comma ∷ []),
+      h.2,
+      h.3,
+    )
 inside_step ov (partial.Index v b i) _ q ps h e = absurd cc
 inside_step ov (partial.Scale v b i) (terminal.Number n) q ps h e =
     let g = scale_ok n (partial.Scaled v b i n) q e in
-    subst (λ (x : Partial). Inside ov x (ps ++ terminal.Number n ∷ [])) g.1 (h.0, ending _ _ _ h.1 ∙ append_assoc (base_part b) (terminal.Percent ∷ terminal.Name i ∷ terminal.Comma ∷ []) (terminal.Number n ∷ []), h.2, h.3, g.0)
+    subst (λ (x : Partial). Inside ov x (ps ++ terminal.Number n ∷ [])) g.1 (
+      h.0,
+      ending _ _ _ h.1 ∙ append_assoc (base_part b) (terminal.Percent ∷ terminal.Name i ∷ terminal.Comma ∷ []) (terminal.Number n ∷ []),
+      h.2,
+      h.3,
+      g.0,
+    )
 inside_step ov (partial.Scale v b i) _ q ps h e = absurd cc
 inside_step ov (partial.Scaled v None i n) terminal.Close q ps h e =
-    subst (λ (x : Partial). Inside ov x (ps ++ terminal.Close ∷ [])) (ok_is (partial.Whole (form.Memory v None (Some i) n)) q e)
-    (None, Some i, n, ap (λ (y : Option Value). form.Memory y None (Some i) n) h.0, subst (λ (y : List Terminal). IsAddress y None (Some i) n) (sym (ending _ _ terminal.Close h.1)) (IsAddress.scaled h.3 h.4))
+    subst (λ (x : Partial). Inside ov x (ps ++ terminal.Close ∷ [])) (ok_is (partial.Whole (form.Memory v None (Some i) n)) q e) (
+      None,
+      Some i,
+      n,
+      ap (λ (y : Option Value). form.Memory y None (Some i) n) h.0,
+      subst (λ (y : List Terminal). IsAddress y None (Some i) n) (sym (ending _ _ terminal.Close h.1)) (IsAddress.scaled h.3 h.4),
+    )
 inside_step ov (partial.Scaled v (Some b) i n) terminal.Close q ps h e =
-    subst (λ (x : Partial). Inside ov x (ps ++ terminal.Close ∷ [])) (ok_is (partial.Whole (form.Memory v (Some b) (Some i) n)) q e)
-    (Some b, Some i, n, ap (λ (y : Option Value). form.Memory y (Some b) (Some i) n) h.0, subst (λ (y : List Terminal). IsAddress y (Some b) (Some i) n) (sym (ending _ _ terminal.Close h.1)) (IsAddress.base_scaled h.2 h.3 h.4))
+    subst (λ (x : Partial). Inside ov x (ps ++ terminal.Close ∷ [])) (ok_is (partial.Whole (form.Memory v (Some b) (Some i) n)) q e) (
+      Some b,
+      Some i,
+      n,
+      ap (λ (y : Option Value). form.Memory y (Some b) (Some i) n) h.0,
+      subst (λ (y : List Terminal). IsAddress y (Some b) (Some i) n) (sym (ending _ _ terminal.Close h.1))
+          (IsAddress.base_scaled h.2 h.3 h.4),
+    )
 inside_step ov (partial.Scaled v b i n) _ q ps h e = absurd cc
 inside_step ov (partial.Whole f) _ q ps h e = absurd cc
 inside_step ov partial.Absent _ q ps h e = absurd h
@@ -316,8 +418,10 @@ Spelled sh partial.Percent ss = (is_operand sh ≡ true) × (ss ≡ terminal.Per
 Spelled sh partial.Dollar ss = (is_operand sh ≡ true) × (ss ≡ terminal.Dollar ∷ [])
 Spelled sh (partial.Minus p) ss = InPlace sh p × (takes_minus sh ≡ true) × (ss ≡ lead p ++ terminal.Minus ∷ [])
 Spelled sh (partial.Name p n) ss = InPlace sh p × (takes_names sh ≡ true) × (ss ≡ lead p ++ terminal.Name n ∷ [])
-Spelled sh (partial.Sign p n neg) ss = InPlace sh p × (takes_names sh ≡ true) × (ss ≡ lead p ++ terminal.Name n ∷ sign neg ∷ []) × (takes_sums sh ≡ true)
-Spelled sh (partial.SignMinus p n neg) ss = InPlace sh p × (takes_names sh ≡ true) × (ss ≡ lead p ++ terminal.Name n ∷ sign neg ∷ terminal.Minus ∷ []) × (takes_sums sh ≡ true)
+Spelled sh (partial.Sign p n neg) ss =
+    InPlace sh p × (takes_names sh ≡ true) × (ss ≡ lead p ++ terminal.Name n ∷ sign neg ∷ []) × (takes_sums sh ≡ true)
+Spelled sh (partial.SignMinus p n neg) ss =
+    InPlace sh p × (takes_names sh ≡ true) × (ss ≡ lead p ++ terminal.Name n ∷ sign neg ∷ terminal.Minus ∷ []) × (takes_sums sh ≡ true)
 Spelled sh (partial.Number p v) ss = InPlace sh p × (vs : List Terminal) × IsValue sh vs v × (ss ≡ lead p ++ vs)
 Spelled sh (partial.Whole f) ss = IsForm sh ss f
 Spelled sh (partial.Open v) ss = WithAddress sh (partial.Open v) ss
@@ -333,7 +437,8 @@ Spelled sh (partial.Scaled v b i s) ss = WithAddress sh (partial.Scaled v b i s)
 from_inside : (sh : Shape) (q : Partial) (ss : List Terminal) → WithAddress sh q ss → Spelled sh q ss
 from_inside sh (partial.Whole f) ss w = from_value w.values w.parts w.front w.is_value w.whole w.inside
   where
-    from_value : (vs ps : List Terminal) (ov : Option Value) → OptValue sh vs ov → ss ≡ vs ++ ps → Inside ov (partial.Whole f) ps → IsForm sh ss f
+    from_value : (vs ps : List Terminal) (ov : Option Value) → OptValue sh vs ov → ss ≡ vs ++ ps
+        → Inside ov (partial.Whole f) ps → IsForm sh ss f
     from_value vs ps ov OptValue.none e (b, i, s, g, a) = rw (g, e) (IsForm.address w.operand a)
     from_value vs ps ov (OptValue.some v) e (b, i, s, g, a) = rw g (IsForm.value_address vs ps w.operand e v a)
 from_inside sh (partial.Open v) ss w = w
@@ -354,7 +459,8 @@ from_inside sh (partial.Sign a n b) ss w = absurd w.inside
 from_inside sh (partial.SignMinus a n b) ss w = absurd w.inside
 from_inside sh (partial.Number a v) ss w = absurd w.inside
 
-address_more : (sh : Shape) (p : Partial) (s : Terminal) (q : Partial) (ss : List Terminal) → WithAddress sh p ss → address_step p s ≡ ok q → Spelled sh q (ss ++ s ∷ [])
+address_more : (sh : Shape) (p : Partial) (s : Terminal) (q : Partial) (ss : List Terminal) → WithAddress sh p ss → address_step p s ≡ ok q
+    → Spelled sh q (ss ++ s ∷ [])
 address_more sh p s q ss w e = from_inside sh q (ss ++ s ∷ []) (record {
   operand = w.operand;
   front = w.front;
@@ -366,64 +472,121 @@ address_more sh p s q ss w e = from_inside sh q (ss ++ s ∷ []) (record {
 })
 
 -- a parenthesis after a value
-opens : (sh : Shape) (p : ValuePlace) (v : Value) (vs ss : List Terminal) (q : Partial) → IsValue sh vs v → ss ≡ lead p ++ vs → open_paren sh p v ≡ ok q → Spelled sh q (ss ++ terminal.Open ∷ [])
+opens : (sh : Shape) (p : ValuePlace) (v : Value) (vs ss : List Terminal) (q : Partial) → IsValue sh vs v → ss ≡ lead p ++ vs
+    → open_paren sh p v ≡ ok q → Spelled sh q (ss ++ terminal.Open ∷ [])
 opens sh place.Memory v vs ss q val e h =
     let g = allowed_ok (is_operand sh) (partial.Open (Some v)) q h in
-    subst (λ (x : Partial). Spelled sh x (ss ++ terminal.Open ∷ [])) g.1 (record { operand = g.0; front = Some v; values = vs; parts = terminal.Open ∷ []; is_value = OptValue.some val; inside = (refl, refl); whole = ending _ _ terminal.Open e })
+    subst (λ (x : Partial). Spelled sh x (ss ++ terminal.Open ∷ [])) g.1
+    (record {
+      operand = g.0;
+      front = Some v;
+      values = vs;
+      parts = terminal.Open ∷ [];
+      is_value = OptValue.some val;
+      inside = (refl, refl);
+      whole = ending _ _ terminal.Open e;
+    })
 opens sh place.Immediate v vs ss q val e h = absurd cc
 
 first_terminal : (sh : Shape) (s : Terminal) (q : Partial) → first sh s ≡ ok q → Spelled sh q (s ∷ [])
-first_terminal sh terminal.Percent q h = let g = allowed_ok (is_operand sh) partial.Percent q h in subst (λ (x : Partial). Spelled sh x (terminal.Percent ∷ [])) g.1 (g.0, refl)
-first_terminal sh terminal.Dollar q h = let g = allowed_ok (is_operand sh) partial.Dollar q h in subst (λ (x : Partial). Spelled sh x (terminal.Dollar ∷ [])) g.1 (g.0, refl)
+first_terminal sh terminal.Percent q h = let g =
+    allowed_ok (is_operand sh) partial.Percent q h in subst (λ (x : Partial). Spelled sh x (terminal.Percent ∷ [])) g.1 (g.0, refl)
+first_terminal sh terminal.Dollar q h = let g =
+    allowed_ok (is_operand sh) partial.Dollar q h in subst (λ (x : Partial). Spelled sh x (terminal.Dollar ∷ [])) g.1 (g.0, refl)
 first_terminal sh terminal.Open q h =
     let g = allowed_ok (is_operand sh) (partial.Open None) q h in
-    subst (λ (x : Partial). Spelled sh x (terminal.Open ∷ [])) g.1 (record { operand = g.0; front = None; values = []; parts = terminal.Open ∷ []; is_value = OptValue.none; inside = (refl, refl); whole = refl })
-first_terminal sh terminal.Minus q h = let g = allowed_ok (takes_minus sh) (partial.Minus place.Memory) q h in subst (λ (x : Partial). Spelled sh x (terminal.Minus ∷ [])) g.1 (tt, g.0, refl)
+    subst (λ (x : Partial). Spelled sh x (terminal.Open ∷ [])) g.1
+    (record {
+      operand = g.0;
+      front = None;
+      values = [];
+      parts = terminal.Open ∷ [];
+      is_value = OptValue.none;
+      inside = (refl, refl);
+      whole = refl;
+    })
+first_terminal sh terminal.Minus q h = let g = allowed_ok (takes_minus sh) (partial.Minus place.Memory) q h in
+    subst (λ (x : Partial). Spelled sh x (terminal.Minus ∷ [])) g.1 (tt, g.0, refl)
 first_terminal sh (terminal.Number n) q h =
     let g = counted_ok (takes_numbers sh) (fits sh false n) (partial.Number place.Memory (plain (pos n))) q h in
     subst (λ (x : Partial). Spelled sh x (terminal.Number n ∷ [])) g.2 (tt, terminal.Number n ∷ [], IsValue.number g.0 g.1, refl)
-first_terminal sh (terminal.Name n) q h = let g = allowed_ok (takes_names sh) (partial.Name place.Memory n) q h in subst (λ (x : Partial). Spelled sh x (terminal.Name n ∷ [])) g.1 (tt, g.0, refl)
-first_terminal sh (terminal.Text t) q h = let g = allowed_ok (takes_text sh) (partial.Whole (form.Text t)) q h in subst (λ (x : Partial). Spelled sh x (terminal.Text t ∷ [])) g.1 (IsForm.text g.0)
+first_terminal sh (terminal.Name n) q h = let g = allowed_ok (takes_names sh) (partial.Name place.Memory n) q h in
+    subst (λ (x : Partial). Spelled sh x (terminal.Name n ∷ [])) g.1 (tt, g.0, refl)
+first_terminal sh (terminal.Text t) q h = let g = allowed_ok (takes_text sh) (partial.Whole (form.Text t)) q h in
+    subst (λ (x : Partial). Spelled sh x (terminal.Text t ∷ [])) g.1 (IsForm.text g.0)
 first_terminal sh _ q h = absurd cc
 
-offset_value : (sh : Shape) (p : ValuePlace) (n : List ℕ) (neg : Bool) (cs ss : List Terminal) (z : ℤ) → takes_names sh ≡ true → takes_sums sh ≡ true → IsConstant neg cs z → ss ≡ lead p ++ terminal.Name n ∷ sign neg ∷ cs
+offset_value : (sh : Shape) (p : ValuePlace) (n : List ℕ) (neg : Bool) (cs ss : List Terminal) (z : ℤ) → takes_names sh ≡ true
+    → takes_sums sh ≡ true → IsConstant neg cs z → ss ≡ lead p ++ terminal.Name n ∷ sign neg ∷ cs
     → (vs : List Terminal) × IsValue sh vs (named n z) × (ss ≡ lead p ++ vs)
 offset_value sh p n true cs ss z a b c e = (terminal.Name n ∷ terminal.Minus ∷ cs, IsValue.difference a b c, e)
 offset_value sh p n false cs ss z a b c e = (terminal.Name n ∷ terminal.Plus ∷ cs, IsValue.sum a b c, e)
 
-pub more : (sh : Shape) (p : Partial) (s : Terminal) (q : Partial) (ss : List Terminal) → Spelled sh p ss → next_terminal sh p s ≡ ok q → Spelled sh q (ss ++ s ∷ [])
+pub more : (sh : Shape) (p : Partial) (s : Terminal) (q : Partial) (ss : List Terminal) → Spelled sh p ss → next_terminal sh p s ≡ ok q
+    → Spelled sh q (ss ++ s ∷ [])
 more sh partial.Nothing s q ss h e = rw h (first_terminal sh s q e)
 more sh partial.Absent s q ss h e = rw h.0 (first_terminal sh s q e)
 more sh partial.Percent (terminal.Name r) q ss h e =
     let g = registered_ok (is_register r) (partial.Whole (form.Register r)) q e in
     subst (λ (x : Partial). Spelled sh x (ss ++ terminal.Name r ∷ [])) g.1 (rw h.1 (IsForm.register h.0 g.0))
 more sh partial.Percent _ q ss h e = absurd cc
-more sh partial.Dollar terminal.Minus q ss h e = subst (λ (x : Partial). Spelled sh x (ss ++ terminal.Minus ∷ [])) (ok_is (partial.Minus place.Immediate) q e) (h.0, (operand_takes sh h.0).1, ending _ _ _ h.1)
+more sh partial.Dollar terminal.Minus q ss h e = subst (λ (x : Partial). Spelled sh x (ss ++ terminal.Minus ∷ []))
+    (ok_is (partial.Minus place.Immediate) q e) (h.0, (operand_takes sh h.0).1, ending _ _ _ h.1)
 more sh partial.Dollar (terminal.Number n) q ss h e =
-    subst (λ (x : Partial). Spelled sh x (ss ++ terminal.Number n ∷ [])) (ok_is (partial.Number place.Immediate (plain (pos n))) q e) (h.0, terminal.Number n ∷ [], IsValue.number (operand_takes sh h.0).0 (operand_fits sh false n h.0), ending _ _ _ h.1)
-more sh partial.Dollar (terminal.Name n) q ss h e = subst (λ (x : Partial). Spelled sh x (ss ++ terminal.Name n ∷ [])) (ok_is (partial.Name place.Immediate n) q e) (h.0, (operand_takes sh h.0).2, ending _ _ _ h.1)
+    subst (λ (x : Partial). Spelled sh x (ss ++ terminal.Number n ∷ [])) (ok_is (partial.Number place.Immediate (plain (pos n))) q e) (
+      h.0,
+      terminal.Number n ∷ [],
+      IsValue.number (operand_takes sh h.0).0 (operand_fits sh false n h.0),
+      ending _ _ _ h.1,
+    )
+more sh partial.Dollar (terminal.Name n) q ss h e = subst (λ (x : Partial). Spelled sh x (ss ++ terminal.Name n ∷ []))
+    (ok_is (partial.Name place.Immediate n) q e) (h.0, (operand_takes sh h.0).2, ending _ _ _ h.1)
 more sh partial.Dollar _ q ss h e = absurd cc
 more sh (partial.Minus p) (terminal.Number n) q ss h e =
     let g = lowered_ok n (fits sh true n) (partial.Number p (plain (signed true n))) q e in
-    subst (λ (x : Partial). Spelled sh x (ss ++ terminal.Number n ∷ [])) g.2 (h.0, terminal.Minus ∷ terminal.Number n ∷ [], IsValue.negative h.1 g.0 g.1, ending _ _ _ h.2 ∙ append_assoc (lead p) (terminal.Minus ∷ []) (terminal.Number n ∷ []))
+    subst (λ (x : Partial). Spelled sh x (ss ++ terminal.Number n ∷ [])) g.2 (
+      h.0,
+      terminal.Minus ∷ terminal.Number n ∷ [],
+      IsValue.negative h.1 g.0 g.1,
+      ending _ _ _ h.2 ∙ append_assoc (lead p) (terminal.Minus ∷ []) (terminal.Number n ∷ []),
+    )
 more sh (partial.Minus p) _ q ss h e = absurd cc
 more sh (partial.Name p n) terminal.Plus q ss h e =
     let g = allowed_ok (takes_sums sh) (partial.Sign p n false) q e in
-    subst (λ (x : Partial). Spelled sh x (ss ++ terminal.Plus ∷ [])) g.1 (h.0, h.1, ending _ _ _ h.2 ∙ append_assoc (lead p) (terminal.Name n ∷ []) (terminal.Plus ∷ []), g.0)
+    subst (λ (x : Partial). Spelled sh x (ss ++ terminal.Plus ∷ [])) g.1 (
+      h.0,
+      h.1,
+      ending _ _ _ h.2 ∙ append_assoc (lead p) (terminal.Name n ∷ []) (terminal.Plus ∷ []),
+      g.0,
+    )
 more sh (partial.Name p n) terminal.Minus q ss h e =
     let g = allowed_ok (takes_sums sh) (partial.Sign p n true) q e in
-    subst (λ (x : Partial). Spelled sh x (ss ++ terminal.Minus ∷ [])) g.1 (h.0, h.1, ending _ _ _ h.2 ∙ append_assoc (lead p) (terminal.Name n ∷ []) (terminal.Minus ∷ []), g.0)
+    subst (λ (x : Partial). Spelled sh x (ss ++ terminal.Minus ∷ [])) g.1 (
+      h.0,
+      h.1,
+      ending _ _ _ h.2 ∙ append_assoc (lead p) (terminal.Name n ∷ []) (terminal.Minus ∷ []),
+      g.0,
+    )
 more sh (partial.Name p n) terminal.Open q ss h e = opens sh p (named n (pos 0)) (terminal.Name n ∷ []) ss q (IsValue.name h.1) h.2 e
 more sh (partial.Name p n) _ q ss h e = absurd cc
 more sh (partial.Sign p n neg) terminal.Minus q ss h e =
-    subst (λ (x : Partial). Spelled sh x (ss ++ terminal.Minus ∷ [])) (ok_is (partial.SignMinus p n neg) q e) (h.0, h.1, ending _ _ _ h.2 ∙ append_assoc (lead p) (terminal.Name n ∷ sign neg ∷ []) (terminal.Minus ∷ []), h.3)
+    subst (λ (x : Partial). Spelled sh x (ss ++ terminal.Minus ∷ [])) (ok_is (partial.SignMinus p n neg) q e) (
+      h.0,
+      h.1,
+      ending _ _ _ h.2 ∙ append_assoc (lead p) (terminal.Name n ∷ sign neg ∷ []) (terminal.Minus ∷ []),
+      h.3,
+    )
 more sh (partial.Sign p n neg) (terminal.Number k) q ss h e =
-    let v = offset_value sh p n neg (terminal.Number k ∷ []) (ss ++ terminal.Number k ∷ []) (signed neg k) h.1 h.3 IsConstant.bare (ending _ _ _ h.2 ∙ append_assoc (lead p) (terminal.Name n ∷ sign neg ∷ []) (terminal.Number k ∷ [])) in
-    subst (λ (x : Partial). Spelled sh x (ss ++ terminal.Number k ∷ [])) (ok_is (partial.Number p (named n (signed neg k))) q e) (h.0, v.0, v.1, v.2)
+    let v = offset_value sh p n neg (terminal.Number k ∷ []) (ss ++ terminal.Number k ∷ []) (signed neg k) h.1 h.3 IsConstant.bare
+    (ending _ _ _ h.2 ∙ append_assoc (lead p) (terminal.Name n ∷ sign neg ∷ []) (terminal.Number k ∷ [])) in
+    subst (λ (x : Partial). Spelled sh x (ss ++ terminal.Number k ∷ [])) (ok_is (partial.Number p (named n (signed neg k))) q e)
+    (h.0, v.0, v.1, v.2)
 more sh (partial.Sign p n neg) _ q ss h e = absurd cc
 more sh (partial.SignMinus p n neg) (terminal.Number k) q ss h e =
     let g = lowered_ok k true (partial.Number p (named n (signed (not neg) k))) q e in
-    let v = offset_value sh p n neg (terminal.Minus ∷ terminal.Number k ∷ []) (ss ++ terminal.Number k ∷ []) (signed (not neg) k) h.1 h.3 (IsConstant.minus g.0) (ending _ _ _ h.2 ∙ append_assoc (lead p) (terminal.Name n ∷ sign neg ∷ terminal.Minus ∷ []) (terminal.Number k ∷ [])) in
+    let v = offset_value sh p n neg (terminal.Minus ∷ terminal.Number k ∷ []) (ss ++ terminal.Number k ∷ []) (signed (not neg) k) h.1 h.3
+    (IsConstant.minus g.0) (ending _ _ _ h.2 ∙ append_assoc (lead p) (terminal.Name n ∷ sign neg ∷ terminal.Minus ∷ [])
+    (terminal.Number k ∷ [])) in
     subst (λ (x : Partial). Spelled sh x (ss ++ terminal.Number k ∷ [])) g.2 (h.0, v.0, v.1, v.2)
 more sh (partial.SignMinus p n neg) _ q ss h e = absurd cc
 more sh (partial.Number p v) terminal.Open q ss h e = opens sh p v h.1 ss q h.2 h.3 e
@@ -440,20 +603,27 @@ more sh (partial.Scaled v b i n) s q ss h e = address_more sh (partial.Scaled v 
 
 -- what may end is a form
 pub spelled_form : (sh : Shape) (p : Partial) (f : Form) (ss : List Terminal) → Spelled sh p ss → finished p ≡ Some f → IsForm sh ss f
-spelled_form sh (partial.Name place.Immediate n) f ss h e = let g : form.Immediate (named n (pos 0)) ≡ f = cc in subst (IsForm sh ss) g (rw h.2 (IsForm.immediate h.0 (IsValue.name h.1)))
-spelled_form sh (partial.Name place.Memory n) f ss h e = let g : form.Memory (Some (named n (pos 0))) None None 1 ≡ f = cc in subst (IsForm sh ss) g (rw h.2 (IsForm.value (IsValue.name h.1)))
-spelled_form sh (partial.Number place.Immediate v) f ss h e = let g : form.Immediate v ≡ f = cc in subst (IsForm sh ss) g (rw h.3 (IsForm.immediate h.0 h.2))
-spelled_form sh (partial.Number place.Memory v) f ss h e = let g : form.Memory (Some v) None None 1 ≡ f = cc in subst (IsForm sh ss) g (rw h.3 (IsForm.value h.2))
+spelled_form sh (partial.Name place.Immediate n) f ss h e =
+    let g : form.Immediate (named n (pos 0)) ≡ f = cc in subst (IsForm sh ss) g (rw h.2 (IsForm.immediate h.0 (IsValue.name h.1)))
+spelled_form sh (partial.Name place.Memory n) f ss h e =
+    let g : form.Memory (Some (named n (pos 0))) None None 1 ≡ f = cc in subst (IsForm sh ss) g (rw h.2 (IsForm.value (IsValue.name h.1)))
+spelled_form sh (partial.Number place.Immediate v) f ss h e =
+    let g : form.Immediate v ≡ f = cc in subst (IsForm sh ss) g (rw h.3 (IsForm.immediate h.0 h.2))
+spelled_form sh (partial.Number place.Memory v) f ss h e =
+    let g : form.Memory (Some v) None None 1 ≡ f = cc in subst (IsForm sh ss) g (rw h.3 (IsForm.value h.2))
 spelled_form sh (partial.Whole x) f ss h e = let g : x ≡ f = cc in subst (IsForm sh ss) g h
 spelled_form sh partial.Absent f ss h e = let g : form.Absent ≡ f = cc in subst (IsForm sh ss) g (rw h.0 (IsForm.absent h.1))
 spelled_form sh _ f ss h e = absurd cc
 
-pub run_spelled : (sh : Shape) (ss rs : List Terminal) (p q : Partial) → Spelled sh p rs → operand_run sh p ss ≡ ok q → Spelled sh q (rs ++ ss)
+pub run_spelled : (sh : Shape) (ss rs : List Terminal) (p q : Partial) → Spelled sh p rs → operand_run sh p ss ≡ ok q
+    → Spelled sh q (rs ++ ss)
 run_spelled sh [] rs p q h e = let g : p ≡ q = cc in subst (λ (x : Partial). Spelled sh x (rs ++ [])) g (rw (append-nil rs) h)
 run_spelled sh (s ∷ ss) rs p q h e = by_step (next_terminal sh p s) refl e (λ n g k. run_spelled sh ss (rs ++ s ∷ []) n q g k)
   where
-    by_step : (r : Result Partial SourceCause) → next_terminal sh p s ≡ r → ◌≡◌ {A = Result Partial SourceCause} (elim r [ Ok n ↦ operand_run sh n ss | Err c ↦ Err c ]) (Ok q)
-        → ((n : Partial) → Spelled sh n (rs ++ s ∷ []) → operand_run sh n ss ≡ ok q → Spelled sh q ((rs ++ s ∷ []) ++ ss)) → Spelled sh q (rs ++ s ∷ ss)
+    by_step : (r : Result Partial SourceCause) → next_terminal sh p s ≡ r
+        → ◌≡◌ {A = Result Partial SourceCause} (elim r [ Ok n ↦ operand_run sh n ss | Err c ↦ Err c ]) (Ok q)
+        → ((n : Partial) → Spelled sh n (rs ++ s ∷ []) → operand_run sh n ss ≡ ok q → Spelled sh q ((rs ++ s ∷ []) ++ ss))
+        → Spelled sh q (rs ++ s ∷ ss)
     by_step (Ok n) f g ih = rw (← append_assoc rs (s ∷ []) ss) (ih n (more sh p s n rs h f) g)
     by_step (Err c) f g ih = absurd cc
 

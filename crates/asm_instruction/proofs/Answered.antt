@@ -34,7 +34,8 @@ fitting_is : (b : Bool) (x a : Assembled) → (if b then Ok x else Err refusal.V
 fitting_is true x a e = cc
 fitting_is false x a e = absurd cc
 
-pub spelling_is : (d : Draft) (w : Wide) (o : Option ArrayBytes) (a : Assembled) → with_spelling d w o ≡ Ok a → (s : ArrayBytes) × (o ≡ Some s) × (a ≡ whole d w s)
+pub spelling_is : (d : Draft) (w : Wide) (o : Option ArrayBytes) (a : Assembled) → with_spelling d w o ≡ Ok a → (s : ArrayBytes)
+    × (o ≡ Some s) × (a ≡ whole d w s)
 spelling_is d w None a e = absurd cc
 spelling_is d w (Some s) a e = (s, refl, fitting_is d.fits (whole d w s) a e)
 
@@ -47,14 +48,17 @@ draft_is args (Some d) a h e =
 
 pub drafted_of_good : (args : List Argument) (rep : Bool) (m : Mnemonic) → MnemonicGood m → When (DraftGood args) (drafted_of rep m args)
 unfolding drafted_of
-drafted_of_good args rep m e = bind_from (OperandsGood args) (DraftGood args) (operands_of args) (λ os. drafted rep m os) (operands_good args) (λ os h. drafted_good args rep m os e h)
+drafted_of_good args rep m e = bind_from (OperandsGood args) (DraftGood args) (operands_of args) (λ os. drafted rep m os)
+    (operands_good args) (λ os h. drafted_good args rep m os e h)
 
-name_is : (rep : Bool) (args : List Argument) (o : Option Mnemonic) (a : Assembled) → When MnemonicGood o → by_name rep args o ≡ Ok a → Spelled args a
+name_is : (rep : Bool) (args : List Argument) (o : Option Mnemonic) (a : Assembled) → When MnemonicGood o
+    → by_name rep args o ≡ Ok a → Spelled args a
 unfolding by_mnemonic
 name_is rep args None a h e = absurd cc
 name_is rep args (Some m) a h e = draft_is args (drafted_of rep m args) a (drafted_of_good args rep m h) e
 
-refused_is : (b : Bool) (rep : Bool) (name : List ℕ) (args : List Argument) (a : Assembled) → (if b then Err refusal.RefusedInstruction else by_name rep args (known_name name)) ≡ Ok a → Spelled args a
+refused_is : (b : Bool) (rep : Bool) (name : List ℕ) (args : List Argument) (a : Assembled)
+    → (if b then Err refusal.RefusedInstruction else by_name rep args (known_name name)) ≡ Ok a → Spelled args a
 refused_is true rep name args a e = absurd cc
 refused_is false rep name args a e = name_is rep args (known_name name) a (known_good name) e
 
@@ -74,7 +78,8 @@ answer_right rep name args a e =
 abbrev named_at : ℕ → ℕ → Bool → Named
 named_at at k r = record { at = at; argument = k; relative = r }
 
-field_named : (named : Bool) (k : Option ℕ) (at : ℕ) (r : Bool) (j : ℕ) → named ≡ true → k ≡ Some j → named_field named k at r ≡ Some (named_at at j r)
+field_named : (named : Bool) (k : Option ℕ) (at : ℕ) (r : Bool) (j : ℕ) → named ≡ true → k ≡ Some j
+    → named_field named k at r ≡ Some (named_at at j r)
 field_named named k at r j h e = rw (h, e) refl
 
 some_same : (x y : Named) → Some x ≡ Some y → x ≡ y
@@ -99,7 +104,8 @@ whole_branch d args s g = record {
   only = λ f e t. g.relative (sym (field_relative (names_symbol args d.imm) d.imm s.imm_at d.relative f e) ∙ t);
 }
 
-pub answer_branch : (rep : Bool) (name : List ℕ) (args : List Argument) (a : Assembled) → assembled rep name args ≡ Ok a → IsBranchRight args a
+pub answer_branch : (rep : Bool) (name : List ℕ) (args : List Argument) (a : Assembled) → assembled rep name args ≡ Ok a
+    → IsBranchRight args a
 answer_branch rep name args a e =
     let s = assembled_is rep name args a e in
     subst (IsBranchRight args) (sym s.is) (whole_branch s.draft args s.spelling s.good)
@@ -111,7 +117,8 @@ field_at named None at r f e = absurd cc
 field_at false (Some k) at r f e = absurd cc
 field_at true (Some k) at r f e = ap (λ (n : Named). n.at) (sym (some_same (named_at at k r) f e))
 
-whole_chosen : (d : Draft) (args : List Argument) (s : ArrayBytes) → DraftGood args d → chosen (widths d args) d.insn ≡ Some s → IsFromChosen (whole d (widths d args) s)
+whole_chosen : (d : Draft) (args : List Argument) (s : ArrayBytes) → DraftGood args d → chosen (widths d args) d.insn ≡ Some s
+    → IsFromChosen (whole d (widths d args) s)
 unfolding whole
 whole_chosen d args s g e = record {
   chosen_there = subst (λ w. chosen w d.insn ≡ Some s) (widths_named d args (widths d args) s refl) e;

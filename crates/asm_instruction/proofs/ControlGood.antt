@@ -30,22 +30,32 @@ module _ (args : List Argument) where
   both_true_first true b h = refl
   both_true_first false b h = h
 
-  pub symbol_good : (o : Op) (c : ℕ) (m : Memory) → is_direct_branch o ≡ true → c < 16 → is_symbol m ≡ true → MemoryGood args m → DraftGood args (to_symbol o c m)
+  pub symbol_good : (o : Op) (c : ℕ) (m : Memory) → is_direct_branch o ≡ true → c < 16 → is_symbol m ≡ true → MemoryGood args m
+      → DraftGood args (to_symbol o c m)
   unfolding to_symbol instruction
   symbol_good o c m e lt s h =
-      let named = and_parts (m.displacement.named) (is_none m.address.base) (and_parts (m.displacement.named && is_none m.address.base) (is_none m.address.index) s).0 in
+      let named = and_parts (m.displacement.named) (is_none m.address.base)
+      (and_parts (m.displacement.named && is_none m.address.base) (is_none m.address.index) s).0 in
       record {
         bounded = record { a = tt; b = tt; imm = distance_below m.address.disp; sel = omega arith };
-        direct = λ t. record { argument = m.displacement.argument; is = refl; named = h.named named.0; relative = refl; constant = ap distance h.constant };
+        direct = λ t. record {
+          argument = m.displacement.argument;
+          is = refl;
+          named = h.named named.0;
+          relative = refl;
+          constant = ap distance h.constant;
+        };
         relative = λ t. e;
       }
 
-  pub direct_if : (o : Op) (c : ℕ) (f : Option Size) (m : Memory) (b : Bool) → is_symbol m ≡ b → is_direct_branch o ≡ true → c < 16 → MemoryGood args m
+  pub direct_if : (o : Op) (c : ℕ) (f : Option Size) (m : Memory) (b : Bool) → is_symbol m ≡ b → is_direct_branch o ≡ true
+      → c < 16 → MemoryGood args m
       → Good args (if b then (agreed f (Some size.Long) None >>= λ z. Some (to_symbol o c m)) else None)
   direct_if o c f m true s e lt h = bind_any (DraftGood args) (agreed f (Some size.Long) None) _ (λ z. symbol_good o c m e lt s h)
   direct_if o c f m false s e lt h = tt
 
-  pub direct_good : (o : Op) (c : ℕ) (f : Option Size) (g : Given) → is_direct_branch o ≡ true → c < 16 → GivenGood args g → Good args (direct o c f g)
+  pub direct_good : (o : Op) (c : ℕ) (f : Option Size) (g : Given) → is_direct_branch o ≡ true → c < 16 → GivenGood args g
+      → Good args (direct o c f g)
   unfolding direct
   direct_good o c f (given.Memory m) e lt h = direct_if o c f m (is_symbol m) refl e lt h
   direct_good o c f _ e lt h = tt
@@ -79,7 +89,8 @@ module _ (args : List Argument) where
       (ap is_direct_branch (numbered_op (alone op.FarJump) size.Long k ∙ instruction_op args op.FarJump size.Long nothing nothing))
       (instruction_numbered args op.FarJump size.Long size.Long nothing nothing k refl tt tt))
 
-  pub condition_good : (d : Draft) (c : ℕ) → c < 16 → is_direct_branch d.insn.op ≡ false → DraftGood args d → DraftGood args (record d { insn = record d.insn { sel = c } })
+  pub condition_good : (d : Draft) (c : ℕ) → c < 16 → is_direct_branch d.insn.op ≡ false → DraftGood args d
+      → DraftGood args (record d { insn = record d.insn { sel = c } })
   condition_good d c lt e g = record {
     bounded = record { a = g.bounded.a; b = g.bounded.b; imm = g.bounded.imm; sel = omega arith };
     direct = λ t. absurd (both_ways (is_direct_branch d.insn.op) e t);
@@ -88,9 +99,11 @@ module _ (args : List Argument) where
 
   pub set_good : (c : ℕ) (g : Given) → c < 16 → GivenGood args g → Good args (set c g)
   unfolding set
-  set_good c g lt p = bind_from (Plain args) (DraftGood args) (one op.Setcc (Some size.Byte) g) _ (one_plain args op.Setcc (Some size.Byte) g refl p) (λ x h. condition_good x c lt h.1 h.0)
+  set_good c g lt p = bind_from (Plain args) (DraftGood args) (one op.Setcc (Some size.Byte) g) _
+      (one_plain args op.Setcc (Some size.Byte) g refl p) (λ x h. condition_good x c lt h.1 h.0)
 
-  pub control_good : (k : Control) (f : Option Size) (os : Operands) → family_good (family.Control k) ≡ true → OperandsGood args os → Good args (control_draft k f os)
+  pub control_good : (k : Control) (f : Option Size) (os : Operands) → family_good (family.Control k) ≡ true → OperandsGood args os
+      → Good args (control_draft k f os)
   unfolding control_draft
   control_good (control.Branch x y) f operands.Nothing e h = tt
   control_good (control.Branch x y) f (operands.One g) e h = direct_good x 0 f g (branch_direct x y e) (omega arith) h
@@ -112,7 +125,8 @@ module _ (args : List Argument) where
   control_good control.Interrupt f (operands.One (given.Segment z)) e h = tt
   control_good control.Interrupt f (operands.One (given.Control n)) e h = tt
   control_good control.Interrupt f (operands.One (given.Memory m)) e h = tt
-  control_good control.Interrupt f (operands.One (given.Immediate n)) e h = instruction_numbered args op.Int size.Long size.Byte nothing nothing n refl tt tt
+  control_good control.Interrupt f (operands.One (given.Immediate n)) e h =
+      instruction_numbered args op.Int size.Long size.Byte nothing nothing n refl tt tt
   control_good control.Interrupt f (operands.One given.Port) e h = tt
   control_good control.Interrupt f (operands.Starred g) e h = tt
   control_good control.Interrupt f (operands.Two s d) e h = tt

@@ -30,7 +30,8 @@ use Rattle.asm_instruction.proofs.MovesGood.{move_good, stack_good}
 use Rattle.asm_instruction.proofs.ControlGood.{control_good}
 
 module _ (args : List Argument) where
-  pub repeated_good : (d : Draft) (s : Size) (r : Bool) → is_direct_branch d.insn.op ≡ false → DraftGood args d → DraftGood args (record d { insn = record d.insn { size = s; rep = r } })
+  pub repeated_good : (d : Draft) (s : Size) (r : Bool) → is_direct_branch d.insn.op ≡ false → DraftGood args d
+      → DraftGood args (record d { insn = record d.insn { size = s; rep = r } })
   repeated_good d s r e g = record {
     bounded = record { a = g.bounded.a; b = g.bounded.b; imm = g.bounded.imm; sel = g.bounded.sel };
     direct = λ t. absurd (both_ways (is_direct_branch d.insn.op) e t);
@@ -39,7 +40,9 @@ module _ (args : List Argument) where
 
   pub string_good : (r : Bool) (o : Op) (s : Size) (os : Operands) → is_direct_branch o ≡ false → Good args (string_draft r o s os)
   unfolding string_draft
-  string_good r o s operands.Nothing e = repeated_good (alone o) s r (ap is_direct_branch (instruction_op args o size.Long nothing nothing) ∙ e) (instruction_good args o size.Long nothing nothing e tt tt)
+  string_good r o s operands.Nothing e =
+      repeated_good (alone o) s r (ap is_direct_branch (instruction_op args o size.Long nothing nothing) ∙ e)
+      (instruction_good args o size.Long nothing nothing e tt tt)
   string_good r o s (operands.One g) e = tt
   string_good r o s (operands.Starred g) e = tt
   string_good r o s (operands.Two x d) e = tt
@@ -47,14 +50,16 @@ module _ (args : List Argument) where
 
   pub plain_good : (o : Op) (f : Option Size) (os : Operands) → is_direct_branch o ≡ false → Good args (plain_draft o f os)
   unfolding plain_draft
-  plain_good o f operands.Nothing e = bind_any (DraftGood args) (agreed f (Some size.Long) None) _ (λ z. instruction_good args o size.Long nothing nothing e tt tt)
+  plain_good o f operands.Nothing e =
+      bind_any (DraftGood args) (agreed f (Some size.Long) None) _ (λ z. instruction_good args o size.Long nothing nothing e tt tt)
   plain_good o f _ e = tt
 
   pub through_good : (o : Op) (s : Size) (g : Given) → is_direct_branch o ≡ false → Good args (through o s g)
   unfolding through
   through_good o s (given.Immediate n) e = instruction_numbered args o s size.Byte nothing nothing n e tt tt
   through_good o s given.Port e = instruction_good args o s nothing (register_operand 2) e tt tt
-  through_good o s (given.Register size.Word n) e = choice (DraftGood args) (n == 2) (Some (instruction o s nothing (register_operand 2))) None (instruction_good args o s nothing (register_operand 2) e tt tt) tt
+  through_good o s (given.Register size.Word n) e = choice (DraftGood args) (n == 2) (Some (instruction o s nothing (register_operand 2)))
+      None (instruction_good args o s nothing (register_operand 2) e tt tt) tt
   through_good o s (given.Register size.Byte n) e = tt
   through_good o s (given.Register size.Long n) e = tt
   through_good o s (given.Memory m) e = tt
@@ -68,16 +73,21 @@ module _ (args : List Argument) where
       (bind_any (DraftGood args) (agreed f (Some t) None) _ (λ z. through_good o z p e)) tt
   ported_good o f p _ e = tt
 
-  pub of_memory_good : (o : Op) (f : Option Size) (g : Given) → is_direct_branch o ≡ false → GivenGood args g → Good args (system_draft (system.Memory o) f (operands.One g))
+  pub of_memory_good : (o : Op) (f : Option Size) (g : Given) → is_direct_branch o ≡ false → GivenGood args g
+      → Good args (system_draft (system.Memory o) f (operands.One g))
   unfolding system_draft
-  of_memory_good o f (given.Memory m) e h = bind_any (DraftGood args) (agreed f (Some size.Long) None) _ (λ z. instruction_good args o z (memory m) nothing e h.below tt)
+  of_memory_good o f (given.Memory m) e h =
+      bind_any (DraftGood args) (agreed f (Some size.Long) None) _ (λ z. instruction_good args o z (memory m) nothing e h.below tt)
   of_memory_good o f _ e h = tt
 
   pub task_good : (f : Option Size) (g : Given) → GivenGood args g → Good args (task f g)
   unfolding task
-  task_good f g p = bind_from PlaceGood (DraftGood args) (register_or_memory g) _ (rom_good args g p) (λ x h. bind_any (DraftGood args) (agreed f (said g) (Some size.Word)) _ (λ z. instruction_good args op.LoadTask size.Long x nothing refl h tt))
+  task_good f g p = bind_from PlaceGood (DraftGood args) (register_or_memory g) _ (rom_good args g p)
+      (λ x h. bind_any (DraftGood args) (agreed f (said g) (Some size.Word)) _
+      (λ z. instruction_good args op.LoadTask size.Long x nothing refl h tt))
 
-  pub system_good : (k : System) (f : Option Size) (os : Operands) → family_good (family.System k) ≡ true → OperandsGood args os → Good args (system_draft k f os)
+  pub system_good : (k : System) (f : Option Size) (os : Operands) → family_good (family.System k) ≡ true → OperandsGood args os
+      → Good args (system_draft k f os)
   unfolding system_draft
   system_good system.In f operands.Nothing e h = tt
   system_good system.In f (operands.One g) e h = tt
@@ -100,7 +110,8 @@ module _ (args : List Argument) where
   system_good system.LoadTask f (operands.Two s d) e h = tt
   system_good system.LoadTask f (operands.Three s d g) e h = tt
 
-  pub by_family_good : (k : Family) (f : Option Size) (os : Operands) → family_good k ≡ true → OperandsGood args os → Good args (by_family k f os)
+  pub by_family_good : (k : Family) (f : Option Size) (os : Operands) → family_good k ≡ true → OperandsGood args os
+      → Good args (by_family k f os)
   by_family_good (family.Arithmetic k) f os e h = arithmetic_good args k f os e h
   by_family_good (family.Shift o) f os e h = shift_good args o f os (not_direct o e) h
   by_family_good (family.Moves k) f os e h = move_good args k f os e h
@@ -120,6 +131,8 @@ module _ (args : List Argument) where
   repeated_family (family.Plain o) os e = tt
   repeated_family (family.System k) os e = tt
 
-  pub drafted_good : (rep : Bool) (m : Mnemonic) (os : Operands) → family_good m.family ≡ true → OperandsGood args os → When (DraftGood args) (drafted rep m os)
+  pub drafted_good : (rep : Bool) (m : Mnemonic) (os : Operands) → family_good m.family ≡ true → OperandsGood args os
+      → When (DraftGood args) (drafted rep m os)
   unfolding drafted
-  drafted_good rep m os e h = choice (DraftGood args) rep (repeated m.family os) (by_family m.family m.suffix os) (repeated_family m.family os e) (by_family_good m.family m.suffix os e h)
+  drafted_good rep m os e h = choice (DraftGood args) rep (repeated m.family os) (by_family m.family m.suffix os)
+      (repeated_family m.family os e) (by_family_good m.family m.suffix os e h)

@@ -40,7 +40,8 @@ and_three false b c = refl
 
 all_append : (xs ys : Numbers) → all_fit (xs ++ ys) ≡ (all_fit xs && all_fit ys)
 all_append [] ys = refl
-all_append (x ∷ xs) ys = ap (λ (b : Bool). fits_field x.0 x.1 && b) (all_append xs ys) ∙ sym (and_three (fits_field x.0 x.1) (all_fit xs) (all_fit ys))
+all_append (x ∷ xs) ys =
+    ap (λ (b : Bool). fits_field x.0 x.1 && b) (all_append xs ys) ∙ sym (and_three (fits_field x.0 x.1) (all_fit xs) (all_fit ys))
 
 one_more : (xs : Numbers) (s : Size) (z : ℤ) → (all_fit xs && fits_field s z) ≡ all_fit (xs ++ (s, z) ∷ [])
 one_more xs s z = ap (λ (b : Bool). all_fit xs && b) (and_true (fits_field s z)) ∙ sym (all_append xs ((s, z) ∷ []))
@@ -57,11 +58,13 @@ or_none None = refl
 abbrev pub FitTo : (Size → Numbers) → Draft → Type 0
 FitTo ns d = d.fits ≡ all_fit (ns d.insn.size)
 
-pub instruction_fit : (ns : Size → Numbers) (o : Op) (s : Size) (a b : NumberedOperand) → fits_displacement (displaced a b) ≡ all_fit (ns s) → FitTo ns (instruction o s a b)
+pub instruction_fit : (ns : Size → Numbers) (o : Op) (s : Size) (a b : NumberedOperand) → fits_displacement (displaced a b) ≡ all_fit (ns s)
+    → FitTo ns (instruction o s a b)
 unfolding instruction
 instruction_fit ns o s a b h = h
 
-pub numbered_fit : (ns : Size → Numbers) (d : Draft) (s : Size) (n : Number) → FitTo ns d → FitTo (λ z. ns z ++ (s, n.value) ∷ []) (with_number d s n)
+pub numbered_fit : (ns : Size → Numbers) (d : Draft) (s : Size) (n : Number) → FitTo ns d
+    → FitTo (λ z. ns z ++ (s, n.value) ∷ []) (with_number d s n)
 unfolding with_number
 numbered_fit ns d s n h = ap (λ (b : Bool). b && fits_field s n.value) h ∙ one_more (ns d.insn.size) s n.value
 
@@ -76,7 +79,8 @@ rom_fit (given.Control n) = tt
 rom_fit (given.Immediate n) = tt
 rom_fit given.Port = tt
 
-pub first_fit : (g : Given) (x : NumberedOperand) (z : Size) → PlaceFit g x → fits_displacement (option_or x.displacement None) ≡ all_fit (numbers_in z g)
+pub first_fit : (g : Given) (x : NumberedOperand) (z : Size) → PlaceFit g x → fits_displacement (option_or x.displacement None)
+    ≡ all_fit (numbers_in z g)
 first_fit g x z h = ap fits_displacement (or_none x.displacement) ∙ h z
 
 abbrev pub One : (Size → Size) → Given → Size → Numbers
@@ -125,7 +129,8 @@ paired_fit given.Port d = tt
 
 pub of_pair_fit : (s d : Given) (o : Op) (z : Size) (p : Pair) → PairFit s d p → FitTo (Two Same Same s d) (of_pair o z p)
 unfolding instruction with_number
-of_pair_fit s d o z (pair.Immediate n x) h = ap (λ (b : Option Number). fits_displacement b && fits_field z n.value) (or_none x.displacement) ∙ h z
+of_pair_fit s d o z (pair.Immediate n x) h =
+    ap (λ (b : Option Number). fits_displacement b && fits_field z n.value) (or_none x.displacement) ∙ h z
 of_pair_fit s d o z (pair.FromRegister n x) h = ap fits_displacement (or_none x.displacement) ∙ h z
 of_pair_fit s d o z (pair.FromMemory x n) h = h z
 
@@ -148,7 +153,8 @@ pub one_unfit : (xs : List (Size × ℤ)) → all_fit xs ≡ false → (x : Size
 one_unfit [] h = absurd cc
 one_unfit (x ∷ xs) h = by_first (fits_field x.0 x.1) refl (one_unfit xs)
   where
-    by_first : (b : Bool) → fits_field x.0 x.1 ≡ b → (all_fit xs ≡ false → (y : Size × ℤ) × Contains xs y × (fits_field y.0 y.1 ≡ false)) → (y : Size × ℤ) × Contains (x ∷ xs) y × (fits_field y.0 y.1 ≡ false)
+    by_first : (b : Bool) → fits_field x.0 x.1 ≡ b → (all_fit xs ≡ false → (y : Size × ℤ) × Contains xs y × (fits_field y.0 y.1 ≡ false))
+        → (y : Size × ℤ) × Contains (x ∷ xs) y × (fits_field y.0 y.1 ≡ false)
     by_first true e more =
         let rest : all_fit xs ≡ false = sym (ap (λ (b : Bool). b && all_fit xs) e) ∙ h in
         let found = more rest in
@@ -157,11 +163,13 @@ one_unfit (x ∷ xs) h = by_first (fits_field x.0 x.1) refl (one_unfit xs)
 
 each_fits : (xs : Numbers) → all_fit xs ≡ true → All (λ (y : Size × ℤ). fits_field y.0 y.1 ≡ true) xs
 each_fits [] h = All-nil _
-each_fits (x ∷ xs) h = let p = and_parts (fits_field x.0 x.1) (all_fit xs) h in All-cons (λ (y : Size × ℤ). fits_field y.0 y.1 ≡ true) x xs p.0 (each_fits xs p.1)
+each_fits (x ∷ xs) h = let p =
+    and_parts (fits_field x.0 x.1) (all_fit xs) h in All-cons (λ (y : Size × ℤ). fits_field y.0 y.1 ≡ true) x xs p.0 (each_fits xs p.1)
 
 pub unfit_all : (xs : List (Size × ℤ)) (x : Size × ℤ) → Contains xs x → fits_field x.0 x.1 ≡ false → all_fit xs ≡ false
 unfit_all xs x c e = by_all (all_fit xs) refl
   where
     by_all : (b : Bool) → all_fit xs ≡ b → all_fit xs ≡ false
     by_all false q = q
-    by_all true q = let fits : fits_field x.0 x.1 ≡ true = All-contains (λ (y : Size × ℤ). fits_field y.0 y.1 ≡ true) xs x (each_fits xs q) c in absurd cc
+    by_all true q = let fits : fits_field x.0 x.1 ≡ true =
+        All-contains (λ (y : Size × ℤ). fits_field y.0 y.1 ≡ true) xs x (each_fits xs q) c in absurd cc

@@ -43,7 +43,8 @@ abbrev pub When : {A : Type 0} → (A → Type 0) → Option A → Type 0
 When Q None = Unit {0}
 When Q (Some a) = Q a
 
-pub bind_from : {A B : Type 0} (Q : A → Type 0) (R : B → Type 0) (o : Option A) (f : A → Option B) → When Q o → ((a : A) → Q a → When R (f a)) → When R (o >>= f)
+pub bind_from : {A B : Type 0} (Q : A → Type 0) (R : B → Type 0) (o : Option A) (f : A → Option B) → When Q o
+    → ((a : A) → Q a → When R (f a)) → When R (o >>= f)
 bind_from Q R None f h k = tt
 bind_from Q R (Some a) f h k = k a h
 
@@ -140,7 +141,8 @@ module _ (args : List Argument) where
   abbrev pub Good : Option Draft → Type 0
   Good o = When (DraftGood args) o
 
-  pub instruction_good : (o : Op) (s : Size) (a b : NumberedOperand) → is_direct_branch o ≡ false → PlaceGood a → PlaceGood b → DraftGood args (instruction o s a b)
+  pub instruction_good : (o : Op) (s : Size) (a b : NumberedOperand) → is_direct_branch o ≡ false → PlaceGood a → PlaceGood b
+      → DraftGood args (instruction o s a b)
   unfolding instruction
   instruction_good o s a b e p q = record {
     bounded = record { a = p; b = q; imm = omega arith; sel = omega arith };
@@ -152,7 +154,8 @@ module _ (args : List Argument) where
   unfolding instruction
   instruction_op o s a b = refl
 
-  pub numbered_good : (d : Draft) (s : Size) (n : Number) → is_direct_branch d.insn.op ≡ false → DraftGood args d → DraftGood args (with_number d s n)
+  pub numbered_good : (d : Draft) (s : Size) (n : Number) → is_direct_branch d.insn.op ≡ false → DraftGood args d
+      → DraftGood args (with_number d s n)
   unfolding with_number
   numbered_good d s n e g = record {
     bounded = record { a = g.bounded.a; b = g.bounded.b; imm = field_below s n.value; sel = g.bounded.sel };
@@ -161,8 +164,10 @@ module _ (args : List Argument) where
   }
 
   -- an instruction with a number
-  pub instruction_numbered : (o : Op) (s t : Size) (a b : NumberedOperand) (n : Number) → is_direct_branch o ≡ false → PlaceGood a → PlaceGood b → DraftGood args (with_number (instruction o s a b) t n)
-  instruction_numbered o s t a b n e p q = numbered_good (instruction o s a b) t n (ap is_direct_branch (instruction_op o s a b) ∙ e) (instruction_good o s a b e p q)
+  pub instruction_numbered : (o : Op) (s t : Size) (a b : NumberedOperand) (n : Number) → is_direct_branch o ≡ false → PlaceGood a
+      → PlaceGood b → DraftGood args (with_number (instruction o s a b) t n)
+  instruction_numbered o s t a b n e p q =
+      numbered_good (instruction o s a b) t n (ap is_direct_branch (instruction_op o s a b) ∙ e) (instruction_good o s a b e p q)
 
   pub rom_good : (g : Given) → GivenGood args g → When PlaceGood (register_or_memory g)
   rom_good (given.Register s n) h = tt
@@ -174,8 +179,10 @@ module _ (args : List Argument) where
 
   pub paired_good : (s d : Given) → GivenGood args s → GivenGood args d → When PairGood (paired s d)
   unfolding paired
-  paired_good (given.Immediate n) d p q = bind_from PlaceGood PairGood (register_or_memory d) (λ x. Some (pair.Immediate n x)) (rom_good d q) (λ x h. h)
-  paired_good (given.Register s n) d p q = bind_from PlaceGood PairGood (register_or_memory d) (λ x. Some (pair.FromRegister n x)) (rom_good d q) (λ x h. h)
+  paired_good (given.Immediate n) d p q =
+      bind_from PlaceGood PairGood (register_or_memory d) (λ x. Some (pair.Immediate n x)) (rom_good d q) (λ x h. h)
+  paired_good (given.Register s n) d p q =
+      bind_from PlaceGood PairGood (register_or_memory d) (λ x. Some (pair.FromRegister n x)) (rom_good d q) (λ x h. h)
   paired_good (given.Memory m) (given.Register s n) p q = p.below
   paired_good (given.Memory m) (given.Memory k) p q = tt
   paired_good (given.Memory m) (given.Segment s) p q = tt
@@ -196,22 +203,29 @@ module _ (args : List Argument) where
   memory_first_good o s (pair.Immediate n x) e h = of_pair_good o s (pair.Immediate n x) e h
   memory_first_good o s (pair.FromRegister n x) e h = of_pair_good o s (pair.FromRegister n x) e h
 
-  pub two_good : (o : Op) (f : Option Size) (s d : Given) → is_direct_branch o ≡ false → GivenGood args s → GivenGood args d → Good (two o f s d)
+  pub two_good : (o : Op) (f : Option Size) (s d : Given) → is_direct_branch o ≡ false → GivenGood args s → GivenGood args d
+      → Good (two o f s d)
   unfolding of_two
-  two_good o f s d e p q = bind_from PairGood (DraftGood args) (paired s d) _ (paired_good s d p q) (λ x h. bind_any (DraftGood args) (agreed f (said s) (said d)) _ (λ z. of_pair_good o z x e h))
+  two_good o f s d e p q = bind_from PairGood (DraftGood args) (paired s d) _ (paired_good s d p q)
+      (λ x h. bind_any (DraftGood args) (agreed f (said s) (said d)) _ (λ z. of_pair_good o z x e h))
 
-  pub tested_good : (f : Option Size) (s d : Given) → GivenGood args s → GivenGood args d → Good (of_two (λ z p. Some (memory_first op.Test z p)) f s d)
+  pub tested_good : (f : Option Size) (s d : Given) → GivenGood args s → GivenGood args d
+      → Good (of_two (λ z p. Some (memory_first op.Test z p)) f s d)
   unfolding of_two
-  tested_good f s d p q = bind_from PairGood (DraftGood args) (paired s d) _ (paired_good s d p q) (λ x h. bind_any (DraftGood args) (agreed f (said s) (said d)) _ (λ z. memory_first_good op.Test z x refl h))
+  tested_good f s d p q = bind_from PairGood (DraftGood args) (paired s d) _ (paired_good s d p q)
+      (λ x h. bind_any (DraftGood args) (agreed f (said s) (said d)) _ (λ z. memory_first_good op.Test z x refl h))
 
-  pub of_one_good : (own : Option Size) (o : Op) (f : Option Size) (g : Given) → is_direct_branch o ≡ false → GivenGood args g → Good (of_one own o f g)
+  pub of_one_good : (own : Option Size) (o : Op) (f : Option Size) (g : Given) → is_direct_branch o ≡ false → GivenGood args g
+      → Good (of_one own o f g)
   unfolding of_one
-  of_one_good own o f g e p = bind_from PlaceGood (DraftGood args) (register_or_memory g) _ (rom_good g p) (λ x h. bind_any (DraftGood args) (agreed f (said g) own) _ (λ z. instruction_good o z x nothing e h tt))
+  of_one_good own o f g e p = bind_from PlaceGood (DraftGood args) (register_or_memory g) _ (rom_good g p)
+      (λ x h. bind_any (DraftGood args) (agreed f (said g) own) _ (λ z. instruction_good o z x nothing e h tt))
 
   pub one_good : (o : Op) (f : Option Size) (g : Given) → is_direct_branch o ≡ false → GivenGood args g → Good (one o f g)
   one_good o f g e p = of_one_good None o f g e p
 
-  pub to_register_good : (o : Op) (f : Option Size) (s d : Given) → is_direct_branch o ≡ false → GivenGood args s → Good (to_register o f s d)
+  pub to_register_good : (o : Op) (f : Option Size) (s d : Given) → is_direct_branch o ≡ false → GivenGood args s
+      → Good (to_register o f s d)
   unfolding to_register
   to_register_good o f s (given.Register t n) e p =
       bind_from PlaceGood (DraftGood args) (register_or_memory s) _ (rom_good s p)
@@ -222,15 +236,19 @@ module _ (args : List Argument) where
   abbrev pub Plain : Draft → Type 0
   Plain d = DraftGood args d × (is_direct_branch d.insn.op ≡ false)
 
-  pub to_register_plain : (o : Op) (f : Option Size) (s d : Given) → is_direct_branch o ≡ false → GivenGood args s → When Plain (to_register o f s d)
+  pub to_register_plain : (o : Op) (f : Option Size) (s d : Given) → is_direct_branch o ≡ false → GivenGood args s
+      → When Plain (to_register o f s d)
   unfolding to_register
   to_register_plain o f s (given.Register t n) e p =
       bind_from PlaceGood Plain (register_or_memory s) _ (rom_good s p)
-      (λ x h. bind_any Plain (agreed f (said s) (Some t)) _ (λ z. (instruction_good o z (register_operand n) x e tt h, ap is_direct_branch (instruction_op o z (register_operand n) x) ∙ e)))
+      (λ x h. bind_any Plain (agreed f (said s) (Some t)) _
+      (λ z. (instruction_good o z (register_operand n) x e tt h, ap is_direct_branch (instruction_op o z (register_operand n) x) ∙ e)))
   to_register_plain o f s _ e p = tt
 
-  pub multiplied_good : (n : Number) (f : Option Size) (s d : Given) → GivenGood args s → Good (to_register op.ImulBy f s d >>= λ x. Some (with_number x size.Long n))
-  multiplied_good n f s d p = bind_from Plain (DraftGood args) (to_register op.ImulBy f s d) _ (to_register_plain op.ImulBy f s d refl p) (λ x h. numbered_good x size.Long n h.1 h.0)
+  pub multiplied_good : (n : Number) (f : Option Size) (s d : Given) → GivenGood args s
+      → Good (to_register op.ImulBy f s d >>= λ x. Some (with_number x size.Long n))
+  multiplied_good n f s d p = bind_from Plain (DraftGood args) (to_register op.ImulBy f s d) _ (to_register_plain op.ImulBy f s d refl p)
+      (λ x h. numbered_good x size.Long n h.1 h.0)
 
   pub product_good : (f : Option Size) (os : Operands) → OperandsGood args os → Good (arithmetic_draft arithmetic.Multiply f os)
   unfolding arithmetic_draft
@@ -245,7 +263,8 @@ module _ (args : List Argument) where
   product_good f (operands.Three (given.Memory m) s d) h = tt
   product_good f (operands.Three given.Port s d) h = tt
 
-  pub arithmetic_good : (k : Arithmetic) (f : Option Size) (os : Operands) → family_good (family.Arithmetic k) ≡ true → OperandsGood args os → Good (arithmetic_draft k f os)
+  pub arithmetic_good : (k : Arithmetic) (f : Option Size) (os : Operands) → family_good (family.Arithmetic k) ≡ true → OperandsGood args os
+      → Good (arithmetic_draft k f os)
   unfolding arithmetic_draft
   arithmetic_good (arithmetic.Two o) f operands.Nothing e h = tt
   arithmetic_good (arithmetic.Two o) f (operands.One g) e h = tt
@@ -268,32 +287,40 @@ module _ (args : List Argument) where
   unfolding of_one
   one_plain o f g e p =
       bind_from PlaceGood Plain (register_or_memory g) _ (rom_good g p)
-      (λ x h. bind_any Plain (agreed f (said g) None) _ (λ z. (instruction_good o z x nothing e h tt, ap is_direct_branch (instruction_op o z x nothing) ∙ e)))
+      (λ x h. bind_any Plain (agreed f (said g) None) _
+      (λ z. (instruction_good o z x nothing e h tt, ap is_direct_branch (instruction_op o z x nothing) ∙ e)))
 
-  pub counted_good : (d : Draft) → is_direct_branch d.insn.op ≡ false → DraftGood args d → DraftGood args (record d { insn = record d.insn { imm = 1 } })
+  pub counted_good : (d : Draft) → is_direct_branch d.insn.op ≡ false → DraftGood args d
+      → DraftGood args (record d { insn = record d.insn { imm = 1 } })
   counted_good d e g = record {
     bounded = record { a = g.bounded.a; b = g.bounded.b; imm = omega arith; sel = g.bounded.sel };
     direct = λ t. absurd (both_ways (is_direct_branch d.insn.op) e t);
     relative = g.relative;
   }
 
-  pub by_one_good : (o : Op) (f : Option Size) (g : Given) → is_direct_branch o ≡ false → GivenGood args g → Good (one o f g >>= λ x. Some (record x { insn = record x.insn { imm = 1 } }))
+  pub by_one_good : (o : Op) (f : Option Size) (g : Given) → is_direct_branch o ≡ false → GivenGood args g
+      → Good (one o f g >>= λ x. Some (record x { insn = record x.insn { imm = 1 } }))
   by_one_good o f g e p = bind_from Plain (DraftGood args) (one o f g) _ (one_plain o f g e p) (λ x h. counted_good x h.1 h.0)
 
-  pub by_number_good : (o : Op) (f : Option Size) (n : Number) (g : Given) → is_direct_branch o ≡ false → GivenGood args g → Good (one o f g >>= λ x. Some (with_number x size.Byte n))
-  by_number_good o f n g e p = bind_from Plain (DraftGood args) (one o f g) _ (one_plain o f g e p) (λ x h. numbered_good x size.Byte n h.1 h.0)
+  pub by_number_good : (o : Op) (f : Option Size) (n : Number) (g : Given) → is_direct_branch o ≡ false → GivenGood args g
+      → Good (one o f g >>= λ x. Some (with_number x size.Byte n))
+  by_number_good o f n g e p =
+      bind_from Plain (DraftGood args) (one o f g) _ (one_plain o f g e p) (λ x h. numbered_good x size.Byte n h.1 h.0)
 
   pub by_register_good : (o : Op) (f : Option Size) (g : Given) → is_direct_branch o ≡ false → GivenGood args g → Good (by_register o f g)
   unfolding by_register
-  by_register_good o f g e p = bind_from PlaceGood (DraftGood args) (register_or_memory g) _ (rom_good g p) (λ x h. bind_any (DraftGood args) (agreed f (said g) None) _ (λ z. instruction_good o z x (register_operand 1) e h tt))
+  by_register_good o f g e p = bind_from PlaceGood (DraftGood args) (register_or_memory g) _ (rom_good g p)
+      (λ x h. bind_any (DraftGood args) (agreed f (said g) None) _ (λ z. instruction_good o z x (register_operand 1) e h tt))
 
-  pub shift_good : (o : Op) (f : Option Size) (os : Operands) → is_direct_branch o ≡ false → OperandsGood args os → Good (shift_draft o f os)
+  pub shift_good : (o : Op) (f : Option Size) (os : Operands) → is_direct_branch o ≡ false → OperandsGood args os
+      → Good (shift_draft o f os)
   unfolding shift_draft
   shift_good o f operands.Nothing e h = tt
   shift_good o f (operands.One g) e h = by_one_good o f g e h
   shift_good o f (operands.Starred g) e h = tt
   shift_good o f (operands.Two (given.Immediate n) d) e h = by_number_good o f n d e h.1
-  shift_good o f (operands.Two (given.Register size.Byte n) d) e h = choice (DraftGood args) (n == 1) (by_register o f d) None (by_register_good o f d e h.1) tt
+  shift_good o f (operands.Two (given.Register size.Byte n) d) e h =
+      choice (DraftGood args) (n == 1) (by_register o f d) None (by_register_good o f d e h.1) tt
   shift_good o f (operands.Two (given.Register size.Word n) d) e h = tt
   shift_good o f (operands.Two (given.Register size.Long n) d) e h = tt
   shift_good o f (operands.Two (given.Memory m) d) e h = tt

@@ -52,7 +52,8 @@ found_listed [] name = tt
 found_listed (e ∷ table) name =
     chosen_by (Lists (e ∷ table) name) (bytes_eq name e.0) (Some e.1) (found table name)
     (λ q. first_found e table name ((bytes_eq-Decides name e.0).0 q))
-    (weaken (Lists table name) (Lists (e ∷ table) name) (found table name) (λ a c. Contains-append_right (e ∷ []) table (name, a) c) (found_listed table name))
+    (weaken (Lists table name) (Lists (e ∷ table) name) (found table name) (λ a c. Contains-append_right (e ∷ []) table (name, a) c)
+    (found_listed table name))
 
 abbrev Each : {A : Type 0} → (A → Type 0) → List A → Type 0
 Each P [] = Unit {0}
@@ -72,10 +73,12 @@ abbrev IsBare : List ℕ → Family → Type 0
 IsBare name f = IsName name (record { family = f; suffix = None })
 
 jump_named : (name rest : List ℕ) → name ≡ 106 ∷ rest → When (IsBare name) (jump_name rest)
-jump_named name rest e = bind_from (Lists conditions rest) (IsBare name) (found conditions rest) _ (found_listed conditions rest) (λ c h. IsName.jump rest e h)
+jump_named name rest e =
+    bind_from (Lists conditions rest) (IsBare name) (found conditions rest) _ (found_listed conditions rest) (λ c h. IsName.jump rest e h)
 
 set_named : (name rest : List ℕ) → name ≡ 115 ∷ 101 ∷ 116 ∷ rest → When (IsBare name) (set_name rest)
-set_named name rest e = bind_from (Lists conditions rest) (IsBare name) (found conditions rest) _ (found_listed conditions rest) (λ c h. IsName.set rest e h)
+set_named name rest e =
+    bind_from (Lists conditions rest) (IsBare name) (found conditions rest) _ (found_listed conditions rest) (λ c h. IsName.set rest e h)
 
 begins_with_set : (s e t : ℕ) (rest : List ℕ) → ((s == 115) && (e == 101) && (t == 116)) ≡ true → s ∷ e ∷ t ∷ rest ≡ 115 ∷ 101 ∷ 116 ∷ rest
 begins_with_set s e t rest h =
@@ -104,15 +107,19 @@ conditional_named (c ∷ rest) =
 suffix_listed : (letter : ℕ) → When (Lists suffixes (letter ∷ [])) (suffix letter)
 unfolding suffixes
 suffix_listed letter =
-    chosen_by (Lists suffixes (letter ∷ [])) (letter == 98) _ _ (λ h. (0, omega arith, ap (λ (n : ℕ). (n ∷ [], size.Byte)) (sym (eqb-true letter 98 h))))
-    (chosen_by (Lists suffixes (letter ∷ [])) (letter == 119) _ _ (λ h. (1, omega arith, ap (λ (n : ℕ). (n ∷ [], size.Word)) (sym (eqb-true letter 119 h))))
-    (chosen_by (Lists suffixes (letter ∷ [])) (letter == 108) _ _ (λ h. (2, omega arith, ap (λ (n : ℕ). (n ∷ [], size.Long)) (sym (eqb-true letter 108 h)))) tt))
+    chosen_by (Lists suffixes (letter ∷ [])) (letter == 98) _ _
+    (λ h. (0, omega arith, ap (λ (n : ℕ). (n ∷ [], size.Byte)) (sym (eqb-true letter 98 h))))
+    (chosen_by (Lists suffixes (letter ∷ [])) (letter == 119) _ _
+    (λ h. (1, omega arith, ap (λ (n : ℕ). (n ∷ [], size.Word)) (sym (eqb-true letter 119 h))))
+    (chosen_by (Lists suffixes (letter ∷ [])) (letter == 108) _ _
+    (λ h. (2, omega arith, ap (λ (n : ℕ). (n ∷ [], size.Long)) (sym (eqb-true letter 108 h)))) tt))
 
 suffixed_named : (name front : List ℕ) (letter : ℕ) → name ≡ front ++ letter ∷ [] → When (IsName name) (suffixed front letter)
 unfolding suffixed
 suffixed_named name front letter e =
     bind_from (Lists sized_names front) (IsName name) (found sized_names front) _ (found_listed sized_names front)
-    (λ f c. bind_from (Lists suffixes (letter ∷ [])) (IsName name) (suffix letter) _ (suffix_listed letter) (λ s d. IsName.suffixed front (letter ∷ []) e c d))
+    (λ f c. bind_from (Lists suffixes (letter ∷ [])) (IsName name) (suffix letter) _ (suffix_listed letter)
+    (λ s d. IsName.suffixed front (letter ∷ []) e c d))
 
 last_apart : (name : List ℕ) (n : ℕ) → length name ≡ n + 1 → name ≡ take n name ++ slice_index name n ∷ []
 last_apart name n e = sym (take_all (n + 1) name (omega (arith, e))) ∙ take_more name n 0 (omega (arith, e))
@@ -123,9 +130,11 @@ with_suffix_named [] = tt
 with_suffix_named (x ∷ rest) =
     let name : List ℕ = x ∷ rest in
     choice (IsName name) (length name == 0) None (suffixed (take (length name - 1) name) (slice_index name (length name - 1))) tt
-    (suffixed_named name (take (length name - 1) name) (slice_index name (length name - 1)) (last_apart name (length name - 1) (omega arith)))
+    (suffixed_named name (take (length name - 1) name) (slice_index name (length name - 1))
+    (last_apart name (length name - 1) (omega arith)))
 
-without_named : (name : List ℕ) (o : Option Family) (p : Option Mnemonic) → When (IsBare name) o → When (IsName name) p → When (IsName name) (without_suffix o p)
+without_named : (name : List ℕ) (o : Option Family) (p : Option Mnemonic) → When (IsBare name) o → When (IsName name) p
+    → When (IsName name) (without_suffix o p)
 without_named name (Some f) p h q = h
 without_named name None p h q = q
 
@@ -148,31 +157,38 @@ abbrev Known : List ℕ → Option Size → Family → Type 0
 Known name s f = known_name name ≡ Some (record { family = f; suffix = s })
 
 exact_known : Each (λ (e : List ℕ × Family). Known e.0 None e.1) exact_names
-unfolding known_name conditional_name exact_names sized_names conditions with_suffix suffixed plain_names frame_names extend_names string_names page_names control_names arithmetic_names shift_names move_names stack_names branch_names system_names
+unfolding known_name conditional_name exact_names sized_names conditions with_suffix suffixed plain_names frame_names extend_names
+    string_names page_names control_names arithmetic_names shift_names move_names stack_names branch_names system_names
 exact_known = (refl, (refl, (refl, (refl, (refl, (refl, (refl, (refl, (refl, (refl, (refl, (refl, (refl, (refl, (refl, (refl, (refl, (refl, (refl, (refl, (refl, (refl, (refl, (refl, (refl, (refl, (refl, (refl, (refl, (refl, (refl, (refl, (refl, (refl, tt))))))))))))))))))))))))))))))))))
 
 jumps_known : Each (λ (e : List ℕ × ℕ). Known (codes "j" ++ e.0) None (family.Control (control.Conditional e.1))) conditions
-unfolding known_name conditional_name exact_names sized_names conditions with_suffix suffixed plain_names frame_names extend_names string_names page_names control_names arithmetic_names shift_names move_names stack_names branch_names system_names
+unfolding known_name conditional_name exact_names sized_names conditions with_suffix suffixed plain_names frame_names extend_names
+    string_names page_names control_names arithmetic_names shift_names move_names stack_names branch_names system_names
 jumps_known = (refl, (refl, (refl, (refl, (refl, (refl, (refl, (refl, (refl, (refl, (refl, (refl, (refl, (refl, (refl, (refl, (refl, (refl, (refl, (refl, (refl, (refl, (refl, (refl, (refl, (refl, (refl, (refl, (refl, (refl, tt))))))))))))))))))))))))))))))
 
 sets_known : Each (λ (e : List ℕ × ℕ). Known (codes "set" ++ e.0) None (family.Control (control.Set e.1))) conditions
-unfolding known_name conditional_name exact_names sized_names conditions with_suffix suffixed plain_names frame_names extend_names string_names page_names control_names arithmetic_names shift_names move_names stack_names branch_names system_names
+unfolding known_name conditional_name exact_names sized_names conditions with_suffix suffixed plain_names frame_names extend_names
+    string_names page_names control_names arithmetic_names shift_names move_names stack_names branch_names system_names
 sets_known = (refl, (refl, (refl, (refl, (refl, (refl, (refl, (refl, (refl, (refl, (refl, (refl, (refl, (refl, (refl, (refl, (refl, (refl, (refl, (refl, (refl, (refl, (refl, (refl, (refl, (refl, (refl, (refl, (refl, (refl, tt))))))))))))))))))))))))))))))
 
 sized_known : Each (λ (e : List ℕ × Family). Known e.0 None e.1) sized_names
-unfolding known_name conditional_name exact_names sized_names conditions with_suffix suffixed plain_names frame_names extend_names string_names page_names control_names arithmetic_names shift_names move_names stack_names branch_names system_names
+unfolding known_name conditional_name exact_names sized_names conditions with_suffix suffixed plain_names frame_names extend_names
+    string_names page_names control_names arithmetic_names shift_names move_names stack_names branch_names system_names
 sized_known = (refl, (refl, (refl, (refl, (refl, (refl, (refl, (refl, (refl, (refl, (refl, (refl, (refl, (refl, (refl, (refl, (refl, (refl, (refl, (refl, (refl, (refl, (refl, (refl, (refl, (refl, (refl, (refl, (refl, (refl, (refl, (refl, (refl, (refl, (refl, (refl, (refl, tt)))))))))))))))))))))))))))))))))))))
 
 bytes_known : Each (λ (e : List ℕ × Family). Known (e.0 ++ codes "b") (Some size.Byte) e.1) sized_names
-unfolding known_name conditional_name exact_names sized_names conditions with_suffix suffixed plain_names frame_names extend_names string_names page_names control_names arithmetic_names shift_names move_names stack_names branch_names system_names
+unfolding known_name conditional_name exact_names sized_names conditions with_suffix suffixed plain_names frame_names extend_names
+    string_names page_names control_names arithmetic_names shift_names move_names stack_names branch_names system_names
 bytes_known = (refl, (refl, (refl, (refl, (refl, (refl, (refl, (refl, (refl, (refl, (refl, (refl, (refl, (refl, (refl, (refl, (refl, (refl, (refl, (refl, (refl, (refl, (refl, (refl, (refl, (refl, (refl, (refl, (refl, (refl, (refl, (refl, (refl, (refl, (refl, (refl, (refl, tt)))))))))))))))))))))))))))))))))))))
 
 words_known : Each (λ (e : List ℕ × Family). Known (e.0 ++ codes "w") (Some size.Word) e.1) sized_names
-unfolding known_name conditional_name exact_names sized_names conditions with_suffix suffixed plain_names frame_names extend_names string_names page_names control_names arithmetic_names shift_names move_names stack_names branch_names system_names
+unfolding known_name conditional_name exact_names sized_names conditions with_suffix suffixed plain_names frame_names extend_names
+    string_names page_names control_names arithmetic_names shift_names move_names stack_names branch_names system_names
 words_known = (refl, (refl, (refl, (refl, (refl, (refl, (refl, (refl, (refl, (refl, (refl, (refl, (refl, (refl, (refl, (refl, (refl, (refl, (refl, (refl, (refl, (refl, (refl, (refl, (refl, (refl, (refl, (refl, (refl, (refl, (refl, (refl, (refl, (refl, (refl, (refl, (refl, tt)))))))))))))))))))))))))))))))))))))
 
 longs_known : Each (λ (e : List ℕ × Family). Known (e.0 ++ codes "l") (Some size.Long) e.1) sized_names
-unfolding known_name conditional_name exact_names sized_names conditions with_suffix suffixed plain_names frame_names extend_names string_names page_names control_names arithmetic_names shift_names move_names stack_names branch_names system_names
+unfolding known_name conditional_name exact_names sized_names conditions with_suffix suffixed plain_names frame_names extend_names
+    string_names page_names control_names arithmetic_names shift_names move_names stack_names branch_names system_names
 longs_known = (refl, (refl, (refl, (refl, (refl, (refl, (refl, (refl, (refl, (refl, (refl, (refl, (refl, (refl, (refl, (refl, (refl, (refl, (refl, (refl, (refl, (refl, (refl, (refl, (refl, (refl, (refl, (refl, (refl, (refl, (refl, (refl, (refl, (refl, (refl, (refl, (refl, tt)))))))))))))))))))))))))))))))))))))
 
 abbrev AllKnown : List ℕ × Size → Type 0
@@ -184,11 +200,15 @@ suffixed_known = (each_is _ sized_names bytes_known, (each_is _ sized_names word
 
 pub named_known : (name : List ℕ) (m : Mnemonic) → IsName name m → known_name name ≡ Some m
 named_known name m (IsName.exact {f} c) = each_at (λ (e : List ℕ × Family). Known e.0 None e.1) exact_names (name, f) exact_known c
-named_known name m (IsName.jump {c} test e h) = ap known_name e ∙ each_at (λ (x : List ℕ × ℕ). Known (codes "j" ++ x.0) None (family.Control (control.Conditional x.1))) conditions (test, c) jumps_known h
-named_known name m (IsName.set {c} test e h) = ap known_name e ∙ each_at (λ (x : List ℕ × ℕ). Known (codes "set" ++ x.0) None (family.Control (control.Set x.1))) conditions (test, c) sets_known h
+named_known name m (IsName.jump {c} test e h) = ap known_name e
+    ∙ each_at (λ (x : List ℕ × ℕ). Known (codes "j" ++ x.0) None (family.Control (control.Conditional x.1))) conditions
+    (test, c) jumps_known h
+named_known name m (IsName.set {c} test e h) = ap known_name e
+    ∙ each_at (λ (x : List ℕ × ℕ). Known (codes "set" ++ x.0) None (family.Control (control.Set x.1))) conditions (test, c) sets_known h
 named_known name m (IsName.sized {f} c) = each_at (λ (e : List ℕ × Family). Known e.0 None e.1) sized_names (name, f) sized_known c
 named_known name m (IsName.suffixed {f} {s} front letter e c d) =
-    ap known_name e ∙ All-contains (λ (x : List ℕ × Family). Known (x.0 ++ letter) (Some s) x.1) sized_names (front, f) (each_at AllKnown suffixes (letter, s) suffixed_known d) c
+    ap known_name e ∙ All-contains (λ (x : List ℕ × Family). Known (x.0 ++ letter) (Some s) x.1) sized_names (front, f)
+    (each_at AllKnown suffixes (letter, s) suffixed_known d) c
 
 -- ---- the names that are refused
 
@@ -197,11 +217,13 @@ unfolding refused_names
 refused_are_found = (refl, (refl, (refl, (refl, (refl, (refl, (refl, (refl, (refl, (refl, (refl, (refl, (refl, (refl, (refl, (refl, tt))))))))))))))))
 
 refused_are_unknown : Each (λ (e : List ℕ × Refused). known_name e.0 ≡ None) refused_names
-unfolding refused_names known_name conditional_name exact_names sized_names conditions with_suffix suffixed plain_names frame_names extend_names string_names page_names control_names arithmetic_names shift_names move_names stack_names branch_names system_names
+unfolding refused_names known_name conditional_name exact_names sized_names conditions with_suffix suffixed plain_names frame_names
+    extend_names string_names page_names control_names arithmetic_names shift_names move_names stack_names branch_names system_names
 refused_are_unknown = (refl, (refl, (refl, (refl, (refl, (refl, (refl, (refl, (refl, (refl, (refl, (refl, (refl, (refl, (refl, (refl, tt))))))))))))))))
 
 pub refused_found : (name : List ℕ) (h : IsRefused name) → found refused_names name ≡ Some h.0
-refused_found name h = each_at (λ (e : List ℕ × Refused). found refused_names e.0 ≡ Some e.1) refused_names (name, h.0) refused_are_found h.1
+refused_found name h =
+    each_at (λ (e : List ℕ × Refused). found refused_names e.0 ≡ Some e.1) refused_names (name, h.0) refused_are_found h.1
 
 pub refused_unknown : (name : List ℕ) → IsRefused name → known_name name ≡ None
 refused_unknown name h = each_at (λ (e : List ℕ × Refused). known_name e.0 ≡ None) refused_names (name, h.0) refused_are_unknown h.1

@@ -33,25 +33,33 @@ use Rattle.asm_instruction.specs.Stack.{of_segment, pushed, popped, stack_draft}
 use Rattle.asm_instruction.proofs.Goods.{bind_from, bind_any, PlaceGood, PairGood, GivenGood, OperandsGood, DraftGood, family_good, not_direct, Good, instruction_good, instruction_numbered, rom_good, paired_good, two_good, of_one_good, to_register_good}
 
 module _ (args : List Argument) where
-  pub special_good : (o : Op) (f : Option Size) (g : Given) (a b : NumberedOperand) → is_direct_branch o ≡ false → PlaceGood a → PlaceGood b → Good args (special o f g a b)
+  pub special_good : (o : Op) (f : Option Size) (g : Given) (a b : NumberedOperand) → is_direct_branch o ≡ false → PlaceGood a → PlaceGood b
+      → Good args (special o f g a b)
   unfolding special
   special_good o f g a b e p q = bind_any (DraftGood args) (agreed f (said g) (Some size.Long)) _ (λ z. instruction_good args o z a b e p q)
 
-  pub from_special_good : (o : Op) (f : Option Size) (x : Operand) (g : Given) → is_direct_branch o ≡ false → IsOperandBounded x → GivenGood args g → Good args (from_special o f x g)
+  pub from_special_good : (o : Op) (f : Option Size) (x : Operand) (g : Given) → is_direct_branch o ≡ false → IsOperandBounded x
+      → GivenGood args g → Good args (from_special o f x g)
   unfolding from_special
-  from_special_good o f x g e b p = bind_from PlaceGood (DraftGood args) (register_or_memory g) _ (rom_good args g p) (λ y h. special_good o f g y (of_operand x) e h b)
+  from_special_good o f x g e b p =
+      bind_from PlaceGood (DraftGood args) (register_or_memory g) _ (rom_good args g p) (λ y h. special_good o f g y (of_operand x) e h b)
 
-  pub to_special_good : (o : Op) (f : Option Size) (g : Given) (x : Operand) → is_direct_branch o ≡ false → IsOperandBounded x → GivenGood args g → Good args (to_special o f g x)
+  pub to_special_good : (o : Op) (f : Option Size) (g : Given) (x : Operand) → is_direct_branch o ≡ false → IsOperandBounded x
+      → GivenGood args g → Good args (to_special o f g x)
   unfolding to_special
-  to_special_good o f g x e b p = bind_from PlaceGood (DraftGood args) (register_or_memory g) _ (rom_good args g p) (λ y h. special_good o f g (of_operand x) y e b h)
+  to_special_good o f g x e b p =
+      bind_from PlaceGood (DraftGood args) (register_or_memory g) _ (rom_good args g p) (λ y h. special_good o f g (of_operand x) y e b h)
 
   pub moved_good : (f : Option Size) (s d : Given) → GivenGood args s → GivenGood args d → Good args (moved f s d)
   unfolding moved
   moved_good f (given.Segment z) d p q = from_special_good op.ReadSeg f (operand.Segment z) d refl tt q
   moved_good f (given.Control n) d p q = from_special_good op.ReadControl f (operand.Control n) d refl tt q
-  moved_good f (given.Register z1 n1) (given.Register z2 n2) p q = two_good args op.Mov f (given.Register z1 n1) (given.Register z2 n2) refl p q
-  moved_good f (given.Register z1 n1) (given.Segment z2) p q = to_special_good op.LoadSeg f (given.Register z1 n1) (operand.Segment z2) refl tt p
-  moved_good f (given.Register z1 n1) (given.Control n2) p q = to_special_good op.WriteControl f (given.Register z1 n1) (operand.Control n2) refl tt p
+  moved_good f (given.Register z1 n1) (given.Register z2 n2) p q =
+      two_good args op.Mov f (given.Register z1 n1) (given.Register z2 n2) refl p q
+  moved_good f (given.Register z1 n1) (given.Segment z2) p q =
+      to_special_good op.LoadSeg f (given.Register z1 n1) (operand.Segment z2) refl tt p
+  moved_good f (given.Register z1 n1) (given.Control n2) p q =
+      to_special_good op.WriteControl f (given.Register z1 n1) (operand.Control n2) refl tt p
   moved_good f (given.Register z1 n1) (given.Memory m2) p q = two_good args op.Mov f (given.Register z1 n1) (given.Memory m2) refl p q
   moved_good f (given.Register z1 n1) (given.Immediate n2) p q = two_good args op.Mov f (given.Register z1 n1) (given.Immediate n2) refl p q
   moved_good f (given.Register z1 n1) given.Port p q = two_good args op.Mov f (given.Register z1 n1) given.Port refl p q
@@ -62,8 +70,10 @@ module _ (args : List Argument) where
   moved_good f (given.Memory m1) (given.Immediate n2) p q = two_good args op.Mov f (given.Memory m1) (given.Immediate n2) refl p q
   moved_good f (given.Memory m1) given.Port p q = two_good args op.Mov f (given.Memory m1) given.Port refl p q
   moved_good f (given.Immediate n1) (given.Register z2 n2) p q = two_good args op.Mov f (given.Immediate n1) (given.Register z2 n2) refl p q
-  moved_good f (given.Immediate n1) (given.Segment z2) p q = to_special_good op.LoadSeg f (given.Immediate n1) (operand.Segment z2) refl tt p
-  moved_good f (given.Immediate n1) (given.Control n2) p q = to_special_good op.WriteControl f (given.Immediate n1) (operand.Control n2) refl tt p
+  moved_good f (given.Immediate n1) (given.Segment z2) p q =
+      to_special_good op.LoadSeg f (given.Immediate n1) (operand.Segment z2) refl tt p
+  moved_good f (given.Immediate n1) (given.Control n2) p q =
+      to_special_good op.WriteControl f (given.Immediate n1) (operand.Control n2) refl tt p
   moved_good f (given.Immediate n1) (given.Memory m2) p q = two_good args op.Mov f (given.Immediate n1) (given.Memory m2) refl p q
   moved_good f (given.Immediate n1) (given.Immediate n2) p q = two_good args op.Mov f (given.Immediate n1) (given.Immediate n2) refl p q
   moved_good f (given.Immediate n1) given.Port p q = two_good args op.Mov f (given.Immediate n1) given.Port refl p q
@@ -91,7 +101,8 @@ module _ (args : List Argument) where
   effective_good f given.Port d p = tt
 
   pub with_register_good : (s : Size) (n : ℕ) (x : NumberedOperand) (o : Operand) → PlaceGood x → DraftGood args (with_register s n x o)
-  with_register_good s n x (operand.Register m) h = instruction_good args op.Xchg s (register_operand (min n m)) (register_operand (max n m)) refl tt tt
+  with_register_good s n x (operand.Register m) h =
+      instruction_good args op.Xchg s (register_operand (min n m)) (register_operand (max n m)) refl tt tt
   with_register_good s n x (operand.Memory m) h = instruction_good args op.Xchg s x (register_operand n) refl h tt
   with_register_good s n x operand.Absent h = instruction_good args op.Xchg s x (register_operand n) refl h tt
   with_register_good s n x (operand.Segment m) h = instruction_good args op.Xchg s x (register_operand n) refl h tt
@@ -104,9 +115,11 @@ module _ (args : List Argument) where
 
   pub exchanged_good : (f : Option Size) (s d : Given) → GivenGood args s → GivenGood args d → Good args (of_two exchange f s d)
   unfolding of_two
-  exchanged_good f s d p q = bind_from PairGood (DraftGood args) (paired s d) _ (paired_good args s d p q) (λ x h. bind_any (DraftGood args) (agreed f (said s) (said d)) _ (λ z. exchange_good z x h))
+  exchanged_good f s d p q = bind_from PairGood (DraftGood args) (paired s d) _ (paired_good args s d p q)
+      (λ x h. bind_any (DraftGood args) (agreed f (said s) (said d)) _ (λ z. exchange_good z x h))
 
-  pub move_good : (k : Moves) (f : Option Size) (os : Operands) → family_good (family.Moves k) ≡ true → OperandsGood args os → Good args (move_draft k f os)
+  pub move_good : (k : Moves) (f : Option Size) (os : Operands) → family_good (family.Moves k) ≡ true → OperandsGood args os
+      → Good args (move_draft k f os)
   unfolding move_draft
   move_good moves.Move f (operands.Two s d) e h = moved_good f s d h.0 h.1
   move_good (moves.Extend o z) f (operands.Two s d) e h = extended_good o z s d (not_direct o e) h.0
@@ -116,10 +129,13 @@ module _ (args : List Argument) where
 
   pub of_segment_good : (o : Op) (f : Option Size) (z : Seg) → is_direct_branch o ≡ false → Good args (of_segment o f z)
   unfolding of_segment
-  of_segment_good o f z e = bind_any (DraftGood args) (agreed f None (Some size.Long)) _ (λ y. instruction_good args o y (of_operand (operand.Segment z)) nothing e tt tt)
+  of_segment_good o f z e = bind_any (DraftGood args) (agreed f None (Some size.Long)) _
+      (λ y. instruction_good args o y (of_operand (operand.Segment z)) nothing e tt tt)
 
-  pub of_number_good : (f : Option Size) (n : Number) → Good args (agreed f (Some size.Long) None >>= λ z. Some (with_number (alone op.Push) z n))
-  of_number_good f n = bind_any (DraftGood args) (agreed f (Some size.Long) None) _ (λ z. instruction_numbered args op.Push size.Long z nothing nothing n refl tt tt)
+  pub of_number_good : (f : Option Size) (n : Number)
+      → Good args (agreed f (Some size.Long) None >>= λ z. Some (with_number (alone op.Push) z n))
+  of_number_good f n = bind_any (DraftGood args) (agreed f (Some size.Long) None) _
+      (λ z. instruction_numbered args op.Push size.Long z nothing nothing n refl tt tt)
 
   pub pushed_good : (f : Option Size) (g : Given) → GivenGood args g → Good args (pushed f g)
   unfolding pushed

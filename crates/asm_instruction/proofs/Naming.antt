@@ -46,9 +46,12 @@ module _ (args : List Argument) where
   register_good : (name : List ℕ) → When (GivenGood args) (named_register name)
   unfolding named_register
   register_good name =
-      either (GivenGood args) _ _ (bind_any (GivenGood args) (found long_registers name) (λ r. Some (given.Register size.Long (number_of r))) (λ r. tt))
-      (either (GivenGood args) _ _ (bind_any (GivenGood args) (found word_registers name) (λ n. Some (given.Register size.Word n)) (λ n. tt))
-      (either (GivenGood args) _ _ (bind_any (GivenGood args) (found byte_registers name) (λ n. Some (given.Register size.Byte n)) (λ n. tt))
+      either (GivenGood args) _ _
+      (bind_any (GivenGood args) (found long_registers name) (λ r. Some (given.Register size.Long (number_of r))) (λ r. tt))
+      (either (GivenGood args) _ _
+      (bind_any (GivenGood args) (found word_registers name) (λ n. Some (given.Register size.Word n)) (λ n. tt))
+      (either (GivenGood args) _ _
+      (bind_any (GivenGood args) (found byte_registers name) (λ n. Some (given.Register size.Byte n)) (λ n. tt))
       (either (GivenGood args) _ _ (bind_any (GivenGood args) (found segment_registers name) (λ s. Some (given.Segment s)) (λ s. tt))
       (bind_any (GivenGood args) (found control_registers name) (λ n. Some (given.Control n)) (λ n. tt)))))
 
@@ -57,13 +60,17 @@ module _ (args : List Argument) where
 
   memory_good : (n : Number) (b i : Option (List ℕ)) (s : ℕ) → NumberGood n → When (GivenGood args) (memory_operand n b i s)
   unfolding memory_operand
-  memory_good n b i s h = bind_any (GivenGood args) (address_register b) _ (λ x. bind_any (GivenGood args) (address_register i) _ (λ y. address_good x y s n h))
+  memory_good n b i s h =
+      bind_any (GivenGood args) (address_register b) _ (λ x. bind_any (GivenGood args) (address_register i) _ (λ y. address_good x y s n h))
 
-  displacement_good : (v : Option Value) (b i : Option (List ℕ)) (s k : ℕ) → names_symbol args (Some k) ≡ is_some (symbol_in (form.Memory v b i s)) → constant_in args k ≡ constant_of (form.Memory v b i s) → NumberGood (displacement v k)
+  displacement_good : (v : Option Value) (b i : Option (List ℕ)) (s k : ℕ)
+      → names_symbol args (Some k) ≡ is_some (symbol_in (form.Memory v b i s)) → constant_in args k ≡ constant_of (form.Memory v b i s)
+      → NumberGood (displacement v k)
   displacement_good (Some v) b i s k h q = record { named = λ t. h ∙ t; constant = sym q }
   displacement_good None b i s k h q = record { named = λ t. absurd cc; constant = sym q }
 
-  given_good : (f : Form) (k : ℕ) → names_symbol args (Some k) ≡ is_some (symbol_in f) → constant_in args k ≡ constant_of f → When (GivenGood args) (given_by f k)
+  given_good : (f : Form) (k : ℕ) → names_symbol args (Some k) ≡ is_some (symbol_in f) → constant_in args k ≡ constant_of f
+      → When (GivenGood args) (given_by f k)
   unfolding given_by
   given_good (form.Register name) k h q = register_good name
   given_good (form.Immediate v) k h q = tt
@@ -87,7 +94,8 @@ module _ (args : List Argument) where
 
   single_good : (a : Argument) → slice_get args 0 ≡ Some a → When (OperandsGood args) (single a)
   unfolding single
-  single_good a e = bind_from (GivenGood args) (OperandsGood args) (given_by a.form 0) (λ g. Some (if a.star then operands.Starred g else operands.One g)) (argument_good a 0 e) (λ g h. starred_good a.star g h)
+  single_good a e = bind_from (GivenGood args) (OperandsGood args) (given_by a.form 0)
+      (λ g. Some (if a.star then operands.Starred g else operands.One g)) (argument_good a 0 e) (λ g h. starred_good a.star g h)
 
 pub operands_good : (args : List Argument) → When (OperandsGood args) (operands_of args)
 unfolding operands_of
@@ -154,7 +162,8 @@ behind_good (s ∷ e ∷ t ∷ rest) = choice FamilyGood ((s == 115) && (e == 10
 conditional_good : (name : List ℕ) → When FamilyGood (conditional_name name)
 unfolding conditional_name
 conditional_good [] = tt
-conditional_good (c ∷ rest) = choice FamilyGood (c == 106) (jump_name rest) (behind_set (c ∷ rest)) (jump_good rest) (behind_good (c ∷ rest))
+conditional_good (c ∷ rest) =
+    choice FamilyGood (c == 106) (jump_name rest) (behind_set (c ∷ rest)) (jump_good rest) (behind_good (c ∷ rest))
 
 exact_good : (name : List ℕ) → When FamilyGood (found exact_names name)
 unfolding exact_names plain_names frame_names extend_names string_names page_names control_names
@@ -166,11 +175,13 @@ sized_good name = found_good sized_names refl name
 
 suffixed_good : (front : List ℕ) (letter : ℕ) → When MnemonicGood (suffixed front letter)
 unfolding suffixed
-suffixed_good front letter = bind_from FamilyGood MnemonicGood (found sized_names front) _ (sized_good front) (λ f h. bind_any MnemonicGood (suffix letter) _ (λ s. h))
+suffixed_good front letter = bind_from FamilyGood MnemonicGood (found sized_names front) _ (sized_good front)
+    (λ f h. bind_any MnemonicGood (suffix letter) _ (λ s. h))
 
 with_suffix_good : (name : List ℕ) → When MnemonicGood (with_suffix name)
 unfolding with_suffix
-with_suffix_good name = choice MnemonicGood (length name == 0) None _ tt (suffixed_good (take (length name - 1) name) (slice_index name (length name - 1)))
+with_suffix_good name =
+    choice MnemonicGood (length name == 0) None _ tt (suffixed_good (take (length name - 1) name) (slice_index name (length name - 1)))
 
 without_good : (o : Option Family) (p : Option Mnemonic) → When FamilyGood o → When MnemonicGood p → When MnemonicGood (without_suffix o p)
 without_good (Some f) p h q = h

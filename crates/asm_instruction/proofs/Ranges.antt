@@ -64,7 +64,8 @@ return_fit (operands.Starred g) = tt
 return_fit (operands.Two s d) = tt
 return_fit (operands.Three s d g) = tt
 
-selected_fit : (n k : Number) → FitTo (λ z. (size.Long, k.value) ∷ [] ++ (size.Word, n.value) ∷ []) (with_selector (with_number (alone op.FarJump) size.Long k) n)
+selected_fit : (n k : Number) → FitTo (λ z. (size.Long, k.value) ∷ [] ++ (size.Word, n.value) ∷ [])
+    (with_selector (with_number (alone op.FarJump) size.Long k) n)
 unfolding instruction with_number
 selected_fit n k = ap (λ (b : Bool). fits_field size.Long k.value && b) (and_true (fits_field size.Word n.value))
 
@@ -74,7 +75,8 @@ far_fit n k = choice (FitTo (λ z. (size.Long, k.value) ∷ [] ++ (size.Word, n.
 
 set_fit : (c : ℕ) (g : Given) → When (FitTo (One Same g)) (set c g)
 unfolding set
-set_fit c g = bind_from (FitTo (One Same g)) (FitTo (One Same g)) (one op.Setcc (Some size.Byte) g) _ (one_fit Same op.Setcc (Some size.Byte) g) (λ x h. h)
+set_fit c g = bind_from (FitTo (One Same g)) (FitTo (One Same g)) (one op.Setcc (Some size.Byte) g) _
+    (one_fit Same op.Setcc (Some size.Byte) g) (λ x h. h)
 
 control_fit : (k : Control) (f : Option Size) (os : Operands) → Fit (family.Control k) os (control_draft k f os)
 unfolding control_draft numbers field_of first_field_of
@@ -103,7 +105,8 @@ control_fit control.Interrupt f (operands.One given.Port) = tt
 control_fit control.Interrupt f (operands.Starred g) = tt
 control_fit control.Interrupt f (operands.Two s d) = tt
 control_fit control.Interrupt f (operands.Three s d g) = tt
-control_fit control.Return f os = bind_any (FamilyFit (family.Control control.Return) os) (agreed f (Some size.Long) None) _ (λ z. return_fit os)
+control_fit control.Return f os =
+    bind_any (FamilyFit (family.Control control.Return) os) (agreed f (Some size.Long) None) _ (λ z. return_fit os)
 control_fit control.FarJump f operands.Nothing = tt
 control_fit control.FarJump f (operands.One g) = tt
 control_fit control.FarJump f (operands.Starred g) = tt
@@ -139,7 +142,8 @@ through_fit : (o : Op) (s : Size) (g : Given) → When (FitTo (One Byte g)) (thr
 unfolding through instruction with_number
 through_fit o s (given.Immediate n) = and_true (fits_field size.Byte n.value)
 through_fit o s given.Port = refl
-through_fit o s (given.Register size.Word n) = choice (FitTo (One Byte (given.Register size.Word n))) (n == 2) (Some (instruction o s nothing (register_operand 2))) None refl tt
+through_fit o s (given.Register size.Word n) =
+    choice (FitTo (One Byte (given.Register size.Word n))) (n == 2) (Some (instruction o s nothing (register_operand 2))) None refl tt
 through_fit o s (given.Register size.Byte n) = tt
 through_fit o s (given.Register size.Long n) = tt
 through_fit o s (given.Memory m) = tt
@@ -164,7 +168,8 @@ ported_out_fit : (f : Option Size) (p g : Given) → When (FitTo (Two Byte Byte 
 unfolding ported
 ported_out_fit f p (given.Register t n) =
     choice (FitTo (λ z. One Byte p z ++ [])) (n == 0) (agreed f (Some t) None >>= λ z. through op.PortOut z p) None
-    (bind_any (FitTo (λ z. One Byte p z ++ [])) (agreed f (Some t) None) _ (λ z. widened p (through op.PortOut z p) (through_fit op.PortOut z p))) tt
+    (bind_any (FitTo (λ z. One Byte p z ++ [])) (agreed f (Some t) None) _
+    (λ z. widened p (through op.PortOut z p) (through_fit op.PortOut z p))) tt
 ported_out_fit f p _ = tt
 
 of_memory_fit : (o : Op) (f : Option Size) (g : Given) → When (FitTo (One Byte g)) (system_draft (system.Memory o) f (operands.One g))
@@ -176,7 +181,8 @@ of_memory_fit o f _ = tt
 
 task_fit : (f : Option Size) (g : Given) → When (FitTo (One Byte g)) (task f g)
 unfolding task
-task_fit f g = bind_from (PlaceFit g) (FitTo (One Byte g)) (register_or_memory g) _ (rom_fit g) (λ x h. bind_any (FitTo (One Byte g)) (agreed f (said g) (Some size.Word)) _ (λ z. unary_fit Byte g op.LoadTask size.Long x h))
+task_fit f g = bind_from (PlaceFit g) (FitTo (One Byte g)) (register_or_memory g) _ (rom_fit g)
+    (λ x h. bind_any (FitTo (One Byte g)) (agreed f (said g) (Some size.Word)) _ (λ z. unary_fit Byte g op.LoadTask size.Long x h))
 
 system_fit : (k : System) (f : Option Size) (os : Operands) → Fit (family.System k) os (system_draft k f os)
 unfolding system_draft numbers field_of first_field_of
@@ -223,7 +229,9 @@ repeated_fit (family.System k) os = tt
 
 drafted_when : (rep : Bool) (m : Mnemonic) (os : Operands) → Fit m.family os (drafted rep m os)
 unfolding drafted
-drafted_when rep m os = choice (FamilyFit m.family os) rep (repeated m.family os) (by_family m.family m.suffix os) (repeated_fit m.family os) (family_fit m.family m.suffix os)
+drafted_when rep m os = choice (FamilyFit m.family os) rep (repeated m.family os) (by_family m.family m.suffix os)
+    (repeated_fit m.family os) (family_fit m.family m.suffix os)
 
-pub drafted_fit : (rep : Bool) (m : Mnemonic) (os : Operands) (d : Draft) → drafted rep m os ≡ Some d → d.fits ≡ all_fit (numbers m.family d.insn.size os)
+pub drafted_fit : (rep : Bool) (m : Mnemonic) (os : Operands) (d : Draft) → drafted rep m os ≡ Some d
+    → d.fits ≡ all_fit (numbers m.family d.insn.size os)
 drafted_fit rep m os d e = subst (When (FamilyFit m.family os)) e (drafted_when rep m os)

@@ -60,11 +60,13 @@ module _ (rep : Bool) (name : List ℕ) (args : List Argument) where
   unfolding by_mnemonic
   undrafted_gives m e = rw e refl
 
-  drafted_gives : (m : Mnemonic) (d : Draft) → drafted_of rep m args ≡ Some d → by_mnemonic rep m args ≡ with_spelling d (widths d args) (chosen (widths d args) d.insn)
+  drafted_gives : (m : Mnemonic) (d : Draft) → drafted_of rep m args ≡ Some d → by_mnemonic rep m args ≡ with_spelling d (widths d args)
+      (chosen (widths d args) d.insn)
   unfolding by_mnemonic spelled
   drafted_gives m d e = rw e refl
 
-  means_gives : (d : Draft) → Means rep name args d → assembled rep name args ≡ with_spelling d (widths d args) (chosen (widths d args) d.insn)
+  means_gives : (d : Draft) → Means rep name args d → assembled rep name args ≡ with_spelling d (widths d args)
+      (chosen (widths d args) d.insn)
   means_gives d h = named_gives h.mnemonic h.named ∙ drafted_gives h.mnemonic d h.drafted
 
   -- ---- what a statement means
@@ -78,9 +80,11 @@ module _ (rep : Bool) (name : List ℕ) (args : List Argument) where
   same_draft : (d e : Draft) → Means rep name args d → Means rep name args e → d ≡ e
   same_draft d e h k = let both : Some d ≡ Some e = sym h.drafted ∙ meant h.mnemonic e h.named k in cc
 
-  spelled_by_row : (m : Mnemonic) (d : Draft) (a : ArrayBytes) → IsName name m → drafted_of rep m args ≡ Some d → chosen (widths d args) d.insn ≡ Some a → SpellsWide (widths d args) (chosen_bytes a) d.insn
+  spelled_by_row : (m : Mnemonic) (d : Draft) (a : ArrayBytes) → IsName name m → drafted_of rep m args ≡ Some d
+      → chosen (widths d args) d.insn ≡ Some a → SpellsWide (widths d args) (chosen_bytes a) d.insn
   spelled_by_row m d a n e c =
-      let good : DraftGood args d = subst (When (DraftGood args)) e (drafted_of_good args rep m (subst (When _) (named_known name m n) (known_good name))) in
+      let good : DraftGood args d =
+      subst (When (DraftGood args)) e (drafted_of_good args rep m (subst (When _) (named_known name m n) (known_good name))) in
       (chosen_good (widths d args) d.insn a c good.bounded).spells
 
   undrafted_rowless : (m : Mnemonic) → IsName name m → drafted_of rep m args ≡ None → IsWithoutRow rep name args
@@ -95,14 +99,16 @@ module _ (rep : Bool) (name : List ℕ) (args : List Argument) where
     mnemonic = h.mnemonic;
     named = h.named;
     none = λ e bytes k s.
-        let other : SpellsWide (widths d args) bytes d.insn = subst (λ (x : Draft). SpellsWide (widths x args) bytes x.insn) (sym (same_draft d e h k)) s in
+        let other : SpellsWide (widths d args) bytes d.insn =
+        subst (λ (x : Draft). SpellsWide (widths x args) bytes x.insn) (sym (same_draft d e h k)) s in
         none_spells (widths d args) d.insn (none_suit (widths d args) d.insn c) bytes other;
   }
 
   pub rowless_gives : IsWithoutRow rep name args → assembled rep name args ≡ Err refusal.Operands
   rowless_gives w = named_gives w.mnemonic w.named ∙ by_drafted (drafted_of rep w.mnemonic args) refl
     where
-      by_chosen : (d : Draft) → drafted_of rep w.mnemonic args ≡ Some d → (o : Option ArrayBytes) → chosen (widths d args) d.insn ≡ o → by_mnemonic rep w.mnemonic args ≡ Err refusal.Operands
+      by_chosen : (d : Draft) → drafted_of rep w.mnemonic args ≡ Some d → (o : Option ArrayBytes) → chosen (widths d args) d.insn ≡ o
+          → by_mnemonic rep w.mnemonic args ≡ Err refusal.Operands
       by_chosen d e None c = drafted_gives w.mnemonic d e ∙ ap (with_spelling d (widths d args)) c
       by_chosen d e (Some a) c =
           let h : Means rep name args d = record { mnemonic = w.mnemonic; named = w.named; drafted = e } in
@@ -114,15 +120,18 @@ module _ (rep : Bool) (name : List ℕ) (args : List Argument) where
 
   -- ---- the numbers
 
-  given_there : (m : Mnemonic) (d : Draft) → drafted_of rep m args ≡ Some d → (os : Operands) × (operands_of args ≡ Some os) × (drafted rep m os ≡ Some d)
+  given_there : (m : Mnemonic) (d : Draft) → drafted_of rep m args ≡ Some d → (os : Operands) × (operands_of args ≡ Some os)
+      × (drafted rep m os ≡ Some d)
   unfolding drafted_of
   given_there m d e = by_given (operands_of args) refl e
     where
-      by_given : (o : Option Operands) → operands_of args ≡ o → (o >>= λ os. drafted rep m os) ≡ Some d → (os : Operands) × (operands_of args ≡ Some os) × (drafted rep m os ≡ Some d)
+      by_given : (o : Option Operands) → operands_of args ≡ o → (o >>= λ os. drafted rep m os) ≡ Some d → (os : Operands)
+          × (operands_of args ≡ Some os) × (drafted rep m os ≡ Some d)
       by_given None q e = absurd cc
       by_given (Some os) q e = (os, q, e)
 
-  draft_fits : (m : Mnemonic) (d : Draft) (os : Operands) → drafted_of rep m args ≡ Some d → operands_of args ≡ Some os → d.fits ≡ all_fit (numbers m.family d.insn.size os)
+  draft_fits : (m : Mnemonic) (d : Draft) (os : Operands) → drafted_of rep m args ≡ Some d → operands_of args ≡ Some os
+      → d.fits ≡ all_fit (numbers m.family d.insn.size os)
   draft_fits m d os e q =
       let there = given_there m d e in
       let both : Some there.0 ≡ Some os = sym there.1 ∙ q in
@@ -130,7 +139,8 @@ module _ (rep : Bool) (name : List ℕ) (args : List Argument) where
       drafted_fit rep m os d (subst (λ (x : Operands). drafted rep m x ≡ Some d) same there.2)
 
   unfit_draft : (u : HasUnfitNumber rep name args) → u.draft.fits ≡ false
-  unfit_draft u = draft_fits u.means.mnemonic u.draft u.given u.means.drafted u.written ∙ unfit_all (numbers u.means.mnemonic.family u.draft.insn.size u.given) (u.field, u.number) u.stands u.unfit
+  unfit_draft u = draft_fits u.means.mnemonic u.draft u.given u.means.drafted u.written
+      ∙ unfit_all (numbers u.means.mnemonic.family u.draft.insn.size u.given) (u.field, u.number) u.stands u.unfit
 
   draft_unfit : (d : Draft) → Means rep name args d → d.fits ≡ false → HasUnfitNumber rep name args
   draft_unfit d h f =
@@ -142,7 +152,8 @@ module _ (rep : Bool) (name : List ℕ) (args : List Argument) where
   pub unfit_gives : HasUnfitNumber rep name args → IsWithoutRow rep name args ⊎ (assembled rep name args ≡ Err refusal.ValueRange)
   unfit_gives u = by_chosen (chosen (widths u.draft args) u.draft.insn) refl
     where
-      by_chosen : (o : Option ArrayBytes) → chosen (widths u.draft args) u.draft.insn ≡ o → IsWithoutRow rep name args ⊎ (assembled rep name args ≡ Err refusal.ValueRange)
+      by_chosen : (o : Option ArrayBytes) → chosen (widths u.draft args) u.draft.insn ≡ o → IsWithoutRow rep name args
+          ⊎ (assembled rep name args ≡ Err refusal.ValueRange)
       by_chosen None c = inl (unspelled_rowless u.draft u.means c)
       by_chosen (Some a) c = inr (means_gives u.draft u.means ∙ rw (c, unfit_draft u) refl)
 
@@ -154,13 +165,16 @@ module _ (rep : Bool) (name : List ℕ) (args : List Argument) where
   Reason refusal.Operands = IsWithoutRow rep name args
   Reason refusal.ValueRange = (IsWithoutRow rep name args → ⊥) × HasUnfitNumber rep name args
 
-  range_reason : (d : Draft) (a : ArrayBytes) → Means rep name args d → chosen (widths d args) d.insn ≡ Some a → d.fits ≡ false → Reason refusal.ValueRange
+  range_reason : (d : Draft) (a : ArrayBytes) → Means rep name args d → chosen (widths d args) d.insn ≡ Some a → d.fits ≡ false
+      → Reason refusal.ValueRange
   range_reason d a h c f = (λ w. w.none d (chosen_bytes a) h (spelled_by_row h.mnemonic d a h.named h.drafted c), draft_unfit d h f)
 
-  draft_reason : (d : Draft) (r : Refusal) → Means rep name args d → with_spelling d (widths d args) (chosen (widths d args) d.insn) ≡ Err r → Reason r
+  draft_reason : (d : Draft) (r : Refusal) → Means rep name args d
+      → with_spelling d (widths d args) (chosen (widths d args) d.insn) ≡ Err r → Reason r
   draft_reason d r h e = by_chosen (chosen (widths d args) d.insn) refl e
     where
-      by_fit : (a : ArrayBytes) (t : Bool) → chosen (widths d args) d.insn ≡ Some a → d.fits ≡ t → cond t (Ok (whole d (widths d args) a)) (Err refusal.ValueRange) ≡ Err r → Reason r
+      by_fit : (a : ArrayBytes) (t : Bool) → chosen (widths d args) d.insn ≡ Some a → d.fits ≡ t
+          → cond t (Ok (whole d (widths d args) a)) (Err refusal.ValueRange) ≡ Err r → Reason r
       by_fit a true c f e = absurd cc
       by_fit a false c f e = let same : refusal.ValueRange ≡ r = cc in subst Reason same (range_reason d a h c f)
 
@@ -172,7 +186,8 @@ module _ (rep : Bool) (name : List ℕ) (args : List Argument) where
   named_reason m r n e = by_drafted (drafted_of rep m args) refl
     where
       by_drafted : (o : Option Draft) → drafted_of rep m args ≡ o → Reason r
-      by_drafted None f = let told : Err refusal.Operands ≡ Err r = sym (undrafted_gives m f) ∙ e in let same : refusal.Operands ≡ r = cc in subst Reason same (undrafted_rowless m n f)
+      by_drafted None f = let told : Err refusal.Operands ≡ Err r =
+          sym (undrafted_gives m f) ∙ e in let same : refusal.Operands ≡ r = cc in subst Reason same (undrafted_rowless m n f)
       by_drafted (Some d) f = draft_reason d r (record { mnemonic = m; named = n; drafted = f }) (sym (drafted_gives m d f) ∙ e)
 
   pub refused_reason : (r : Refusal) → assembled rep name args ≡ Err r → Reason r
@@ -205,7 +220,8 @@ module _ (rep : Bool) (name : List ℕ) (args : List Argument) where
   reason_told refusal.Operands h = rowless_gives h
   reason_told refusal.ValueRange h = by_unfit (unfit_gives h.1)
     where
-      by_unfit : IsWithoutRow rep name args ⊎ (assembled rep name args ≡ Err refusal.ValueRange) → assembled rep name args ≡ Err refusal.ValueRange
+      by_unfit : IsWithoutRow rep name args ⊎ (assembled rep name args ≡ Err refusal.ValueRange)
+          → assembled rep name args ≡ Err refusal.ValueRange
       by_unfit (inl w) = absurd (h.0 w)
       by_unfit (inr e) = e
 

@@ -14,20 +14,24 @@ use Rattle.asm_instruction.specs.Flags.{plain_names}
 use Rattle.asm_instruction.specs.System.{system_names, page_names}
 use Rattle.asm_instruction.specs.Mnemonic.{exact_names, sized_names}
 
-first_or : {A : Type 0} (b : Bool) (a : A) (x y z : Option A) → z ≡ option_or x y → (if b then Some a else z) ≡ option_or (if b then Some a else x) y
+first_or : {A : Type 0} (b : Bool) (a : A) (x y z : Option A) → z ≡ option_or x y
+    → (if b then Some a else z) ≡ option_or (if b then Some a else x) y
 first_or true a x y z e = refl
 first_or false a x y z e = e
 
 pub found_append : {A : Type 0} (xs ys : Table A) (name : List ℕ) → found (xs ++ ys) name ≡ option_or (found xs name) (found ys name)
 found_append [] ys name = refl
-found_append (x ∷ xs) ys name = first_or (bytes_eq name x.0) x.1 (found xs name) (found ys name) (found (xs ++ ys) name) (found_append xs ys name)
+found_append (x ∷ xs) ys name =
+    first_or (bytes_eq name x.0) x.1 (found xs name) (found ys name) (found (xs ++ ys) name) (found_append xs ys name)
 
 -- one table more
-behind : {A : Type 0} (xs ys : Table A) (name : List ℕ) (o : Option A) → found xs name ≡ o → found (xs ++ ys) name ≡ option_or o (found ys name)
+behind : {A : Type 0} (xs ys : Table A) (name : List ℕ) (o : Option A) → found xs name ≡ o
+    → found (xs ++ ys) name ≡ option_or o (found ys name)
 behind xs ys name o e = found_append xs ys name ∙ ap (λ x. option_or x (found ys name)) e
 
 pub exact_found : (name : List ℕ) → found exact_names name
-    ≡ option_or (option_or (option_or (option_or (option_or (found plain_names name) (found frame_names name)) (found extend_names name)) (found string_names name))
+    ≡ option_or (option_or (option_or (option_or (option_or (found plain_names name) (found frame_names name)) (found extend_names name))
+    (found string_names name))
     (found page_names name)) (found control_names name)
 unfolding exact_names
 exact_found name =
@@ -38,7 +42,8 @@ exact_found name =
     (found_append plain_names frame_names name))))
 
 pub sized_found : (name : List ℕ) → found sized_names name
-    ≡ option_or (option_or (option_or (option_or (option_or (found arithmetic_names name) (found shift_names name)) (found move_names name)) (found stack_names name))
+    ≡ option_or (option_or (option_or (option_or (option_or (found arithmetic_names name) (found shift_names name)) (found move_names name))
+    (found stack_names name))
     (found branch_names name)) (found system_names name)
 unfolding sized_names
 sized_found name =

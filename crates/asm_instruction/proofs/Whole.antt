@@ -23,7 +23,8 @@ symbol_there None h = absurd cc
 abbrev argument_named : Option Argument → Bool
 argument_named o = is_some (o >>= λ a. symbol_in a.form)
 
-argument_there : (o : Option Argument) → argument_named o ≡ true → (a : Argument) × (n : List ℕ) × (o ≡ Some a) × (symbol_in a.form ≡ Some n)
+argument_there : (o : Option Argument) → argument_named o ≡ true → (a : Argument) × (n : List ℕ) × (o ≡ Some a)
+    × (symbol_in a.form ≡ Some n)
 argument_there (Some a) h = let s = symbol_there (symbol_in a.form) h in (a, s.0, refl, s.1)
 argument_there None h = absurd cc
 
@@ -35,17 +36,21 @@ none_named : (args : List Argument) → names_symbol args None ≡ false
 unfolding names_symbol
 none_named args = refl
 
-field_some : (args : List Argument) (k : Option ℕ) (named : Bool) (at : ℕ) (r : Bool) → named ≡ names_symbol args k → is_some (named_field named k at r) ≡ named
+field_some : (args : List Argument) (k : Option ℕ) (named : Bool) (at : ℕ) (r : Bool) → named ≡ names_symbol args k
+    → is_some (named_field named k at r) ≡ named
 field_some args None named at r h = sym (h ∙ none_named args)
 field_some args (Some k) true at r h = refl
 field_some args (Some k) false at r h = refl
 
-field_is : (args : List Argument) (k : Option ℕ) (named : Bool) (at : ℕ) (r : Bool) (len : ℕ) → named ≡ names_symbol args k → (IsTrue named → at + 4 ≤ len) → IsField len args (named_field named k at r)
+field_is : (args : List Argument) (k : Option ℕ) (named : Bool) (at : ℕ) (r : Bool) (len : ℕ) → named ≡ names_symbol args k
+    → (IsTrue named → at + 4 ≤ len) → IsField len args (named_field named k at r)
 field_is args None named at r len h le = tt
 field_is args (Some k) false at r len h le = tt
-field_is args (Some k) true at r len h le = let a = argument_there (slice_get args k) (named_there args k (sym h)) in (le refl, a.0, a.1, a.2, a.3)
+field_is args (Some k) true at r len h le = let a =
+    argument_there (slice_get args k) (named_there args k (sym h)) in (le refl, a.0, a.1, a.2, a.3)
 
-fields_before : (m n : Bool) (k j : Option ℕ) (d i : ℕ) (q r : Bool) → (IsTrue m → IsTrue n → d + 4 ≤ i) → Before (named_field m k d q) (named_field n j i r)
+fields_before : (m n : Bool) (k j : Option ℕ) (d i : ℕ) (q r : Bool) → (IsTrue m → IsTrue n → d + 4 ≤ i)
+    → Before (named_field m k d q) (named_field n j i r)
 fields_before m n None None d i q r h = tt
 fields_before m true None (Some j) d i q r h = tt
 fields_before m false None (Some j) d i q r h = tt
@@ -60,7 +65,8 @@ abbrev wide_of : Bool → Bool → Wide
 wide_of d i = record { disp = d; imm = i }
 
 -- The fields that are there are those that name symbols.
-pub widths_named : (d : Draft) (args : List Argument) (wide : Wide) (s : ArrayBytes) → wide ≡ widths d args → wide ≡ named_in (whole d wide s)
+pub widths_named : (d : Draft) (args : List Argument) (wide : Wide) (s : ArrayBytes) → wide ≡ widths d args
+    → wide ≡ named_in (whole d wide s)
 unfolding widths whole
 widths_named d args wide s e =
     let disp : wide.disp ≡ names_symbol args d.disp = ap (λ (w : Wide). w.disp) e in
@@ -69,7 +75,8 @@ widths_named d args wide s e =
     ∙ ap (wide_of (is_some (named_field wide.disp d.disp s.disp_at false))) (sym (field_some args d.imm wide.imm s.imm_at d.relative imm))
 
 -- The answer has what the encoder says of its spelling.
-pub whole_right : (d : Draft) (args : List Argument) (wide : Wide) (s : ArrayBytes) (a : Assembled) → wide ≡ widths d args → a ≡ whole d wide s
+pub whole_right : (d : Draft) (args : List Argument) (wide : Wide) (s : ArrayBytes) (a : Assembled) → wide ≡ widths d args
+    → a ≡ whole d wide s
     → SpellsWide wide (take s.len s.bytes) d.insn → IsReadBack (take s.len s.bytes) d.insn s.len → IsPlaced wide s → IsRight args a
 unfolding widths whole
 whole_right d args wide s a e f spells back placed =

@@ -16,8 +16,14 @@ use Rattle.asm_instruction.specs.Draft.{alone}
 -- as they are
 unfoldable pub plain_names : Table Family
 plain_names =
-    (codes "clc", family.Plain op.Clc) ∷ (codes "stc", family.Plain op.Stc) ∷ (codes "cld", family.Plain op.Cld) ∷ (codes "std", family.Plain op.Std) ∷
-    (codes "cli", family.Plain op.Cli) ∷ (codes "sti", family.Plain op.Sti) ∷ (codes "cwtl", family.Plain op.Cwde) ∷ (codes "cltd", family.Plain op.Cdq) ∷
+    (codes "clc", family.Plain op.Clc) ∷ (codes "stc", family.Plain op.Stc) ∷ (codes "cld", family.Plain op.Cld) ∷ (
+      codes "std",
+      family.Plain op.Std,
+    ) ∷
+    (codes "cli", family.Plain op.Cli) ∷ (codes "sti", family.Plain op.Sti) ∷ (codes "cwtl", family.Plain op.Cwde) ∷ (
+      codes "cltd",
+      family.Plain op.Cdq,
+    ) ∷
     (codes "nop", family.Plain op.Nop) ∷ (codes "hlt", family.Plain op.Hlt) ∷ []
 
 -- where it takes a suffix, only 32 bits exist

@@ -28,7 +28,8 @@ sized_names = arithmetic_names ++ shift_names ++ move_names ++ stack_names ++ br
 
 -- b, w or l
 abbrev pub suffix : ℕ → Option Size
-suffix letter = if letter == 98 then Some size.Byte else if letter == 119 then Some size.Word else if letter == 108 then Some size.Long else None
+suffix letter =
+    if letter == 98 then Some size.Byte else if letter == 119 then Some size.Word else if letter == 108 then Some size.Long else None
 
 unfoldable pub suffixed : List ℕ → ℕ → Option Mnemonic
 suffixed front letter = do

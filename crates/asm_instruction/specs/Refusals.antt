@@ -32,10 +32,13 @@ suffixes = (codes "b", size.Byte) ∷ (codes "w", size.Word) ∷ (codes "l", siz
 -- The name of an instruction, and what it means: one that stands as it is, j or set and a condition, or one with a suffix or none.
 pub data IsName (name : List ℕ) : Mnemonic → Type 0 where
   exact : {f : Family} → Contains exact_names (name, f) → IsName name (record { family = f; suffix = None })
-  jump : {c : ℕ} (test : List ℕ) → name ≡ codes "j" ++ test → Contains conditions (test, c) → IsName name (record { family = family.Control (control.Conditional c); suffix = None })
-  set : {c : ℕ} (test : List ℕ) → name ≡ codes "set" ++ test → Contains conditions (test, c) → IsName name (record { family = family.Control (control.Set c); suffix = None })
+  jump : {c : ℕ} (test : List ℕ) → name ≡ codes "j" ++ test → Contains conditions (test, c)
+      → IsName name (record { family = family.Control (control.Conditional c); suffix = None })
+  set : {c : ℕ} (test : List ℕ) → name ≡ codes "set" ++ test → Contains conditions (test, c)
+      → IsName name (record { family = family.Control (control.Set c); suffix = None })
   sized : {f : Family} → Contains sized_names (name, f) → IsName name (record { family = f; suffix = None })
-  suffixed : {f : Family} {s : Size} (front letter : List ℕ) → name ≡ front ++ letter → Contains sized_names (front, f) → Contains suffixes (letter, s) → IsName name (record { family = f; suffix = Some s })
+  suffixed : {f : Family} {s : Size} (front letter : List ℕ) → name ≡ front ++ letter → Contains sized_names (front, f)
+      → Contains suffixes (letter, s) → IsName name (record { family = f; suffix = Some s })
 
 -- The name is one of those that are refused.
 abbrev pub IsRefused : List ℕ → Type 0

@@ -36,7 +36,8 @@ pub record SpellsItsInstruction (a : Assembled) : Type 0 where
 -- the field lies in the spelling, and its argument names a symbol
 abbrev pub IsField : ℕ → List Argument → Option Named → Type 0
 IsField len args None = Unit {0}
-IsField len args (Some f) = (f.at + 4 ≤ len) × (a : Argument) × (n : List ℕ) × (slice_get args f.argument ≡ Some a) × (symbol_in a.form ≡ Some n)
+IsField len args (Some f) =
+    (f.at + 4 ≤ len) × (a : Argument) × (n : List ℕ) × (slice_get args f.argument ≡ Some a) × (symbol_in a.form ≡ Some n)
 
 pub record HasFields (args : List Argument) (a : Assembled) : Type 0 where
   pub disp : IsField a.spelling.len args a.disp

@@ -47,22 +47,34 @@ begun_in at line b = begins_in (class_of b) at line b
 pub step_in : (m : Mode) (at line b : ℕ) → StopsIn line (stepped m at line b).next
 step_in mode.Between at line b = begun_in at line b
 step_in mode.Slash at line b = either line (b == 42) (goes (mode.Block line)) (stops line cause.BadCharacter) tt refl
-step_in mode.Line at line b = either line (b == 10) (emits kind.End at 1) (cond (is_source b) (goes mode.Line) (stops line cause.NotAscii)) tt (either line (is_source b) (goes mode.Line) (stops line cause.NotAscii) tt refl)
-step_in (mode.Block l) at line b = either line (b == 42) (goes (mode.Star l)) (cond (is_source b) (goes (mode.Block l)) (stops line cause.NotAscii)) tt (either line (is_source b) (goes (mode.Block l)) (stops line cause.NotAscii) tt refl)
+step_in mode.Line at line b = either line (b == 10) (emits kind.End at 1) (cond (is_source b) (goes mode.Line) (stops line cause.NotAscii))
+    tt (either line (is_source b) (goes mode.Line) (stops line cause.NotAscii) tt refl)
+step_in (mode.Block l) at line b = either line (b == 42) (goes (mode.Star l))
+    (cond (is_source b) (goes (mode.Block l)) (stops line cause.NotAscii)) tt
+    (either line (is_source b) (goes (mode.Block l)) (stops line cause.NotAscii) tt refl)
 step_in (mode.Star l) at line b =
-    either line (b == 47) (goes mode.Between) (cond (b == 42) (goes (mode.Star l)) (cond (is_source b) (goes (mode.Block l)) (stops line cause.NotAscii))) tt
-    (either line (b == 42) (goes (mode.Star l)) (cond (is_source b) (goes (mode.Block l)) (stops line cause.NotAscii)) tt (either line (is_source b) (goes (mode.Block l)) (stops line cause.NotAscii) tt refl))
+    either line (b == 47) (goes mode.Between)
+    (cond (b == 42) (goes (mode.Star l)) (cond (is_source b) (goes (mode.Block l)) (stops line cause.NotAscii))) tt
+    (either line (b == 42) (goes (mode.Star l)) (cond (is_source b) (goes (mode.Block l)) (stops line cause.NotAscii)) tt
+    (either line (is_source b) (goes (mode.Block l)) (stops line cause.NotAscii) tt refl))
 step_in (mode.Word s) at line b = either line (is_word b) (goes (mode.Word s)) (after kind.Name s at line b) tt (begun_in at line b)
 step_in (mode.Number s d) at line b =
-    either line (is_word b) (goes (mode.Number s (next_digit d b))) (cond (is_whole d) (after kind.Number s at line b) (stops line cause.BadNumber)) tt
+    either line (is_word b) (goes (mode.Number s (next_digit d b)))
+    (cond (is_whole d) (after kind.Number s at line b) (stops line cause.BadNumber)) tt
     (either line (is_whole d) (after kind.Number s at line b) (stops line cause.BadNumber) (begun_in at line b) refl)
-step_in (mode.Quote s) at line b = either line (is_source b && not (b == 10)) (emits kind.Number s (at + 1 - s)) (stops line cause.BadNumber) tt refl
+step_in (mode.Quote s) at line b =
+    either line (is_source b && not (b == 10)) (emits kind.Number s (at + 1 - s)) (stops line cause.BadNumber) tt refl
 step_in (mode.Text s) at line b =
-    either line (b == 34) (emits kind.Text s (at + 1 - s)) (cond (b == 10) (stops line cause.OpenString) (cond (b == 92) (goes (mode.Escape s)) (cond (is_source b) (goes (mode.Text s)) (stops line cause.NotAscii)))) tt
-    (either line (b == 10) (stops line cause.OpenString) (cond (b == 92) (goes (mode.Escape s)) (cond (is_source b) (goes (mode.Text s)) (stops line cause.NotAscii))) refl
-    (either line (b == 92) (goes (mode.Escape s)) (cond (is_source b) (goes (mode.Text s)) (stops line cause.NotAscii)) tt (either line (is_source b) (goes (mode.Text s)) (stops line cause.NotAscii) tt refl)))
+    either line (b == 34) (emits kind.Text s (at + 1 - s))
+    (cond (b == 10) (stops line cause.OpenString)
+    (cond (b == 92) (goes (mode.Escape s)) (cond (is_source b) (goes (mode.Text s)) (stops line cause.NotAscii)))) tt
+    (either line (b == 10) (stops line cause.OpenString)
+    (cond (b == 92) (goes (mode.Escape s)) (cond (is_source b) (goes (mode.Text s)) (stops line cause.NotAscii))) refl
+    (either line (b == 92) (goes (mode.Escape s)) (cond (is_source b) (goes (mode.Text s)) (stops line cause.NotAscii)) tt
+    (either line (is_source b) (goes (mode.Text s)) (stops line cause.NotAscii) tt refl)))
 step_in (mode.Escape s) at line b =
-    either line (b == 10) (stops line cause.OpenString) (cond (is_escape b) (goes (mode.Text s)) (stops line cause.BadEscape)) refl (either line (is_escape b) (goes (mode.Text s)) (stops line cause.BadEscape) tt refl)
+    either line (b == 10) (stops line cause.OpenString) (cond (is_escape b) (goes (mode.Text s)) (stops line cause.BadEscape)) refl
+    (either line (is_escape b) (goes (mode.Text s)) (stops line cause.BadEscape) tt refl)
 
 -- ---- what a text leaves
 
@@ -73,21 +85,27 @@ abbrev pub leaves : Next → ℕ → ℕ → ℕ → List ℕ → Next
 leaves (Goes n) at line b bs = ends n (at + 1) (line_after line b) bs
 leaves (Stops l c) at line b bs = Stops l c
 
-pub byte_leaves : (n : Next) (at line b : ℕ) (bs : List ℕ) → (let r : Tokens = elim n [ Goes k ↦ token_scan k (at + 1) (line_after line b) bs | Stops l c ↦ record { tokens = []; ending = Stops l c } ] in r.ending) ≡ leaves n at line b bs
+pub byte_leaves : (n : Next) (at line b : ℕ) (bs : List ℕ)
+    → (let r : Tokens =
+    elim n [ Goes k ↦ token_scan k (at + 1) (line_after line b) bs | Stops l c ↦ record { tokens = []; ending = Stops l c } ] in
+    r.ending) ≡ leaves n at line b bs
 byte_leaves (Goes n) at line b bs = refl
 byte_leaves (Stops l c) at line b bs = refl
 
 -- what one byte and those after it leave
 data Byte (m : Mode) (at line b : ℕ) : Type 0 where
   halts : (l : ℕ) (c : SourceCause) → l ≡ line → ((bs : List ℕ) → ends m at line (b ∷ bs) ≡ Stops l c) → Byte m at line b
-  runs : (n : Mode) → (stepped m at line b).next ≡ Goes n → ((bs : List ℕ) → ends m at line (b ∷ bs) ≡ ends n (at + 1) (line_after line b) bs) → Byte m at line b
+  runs : (n : Mode) → (stepped m at line b).next ≡ Goes n
+      → ((bs : List ℕ) → ends m at line (b ∷ bs) ≡ ends n (at + 1) (line_after line b) bs) → Byte m at line b
 
 byte : (m : Mode) (at line b : ℕ) → Byte m at line b
 byte m at line b = by_next (stepped m at line b).next refl (step_in m at line b)
   where
     by_next : (n : Next) → (stepped m at line b).next ≡ n → StopsIn line n → Byte m at line b
-    by_next (Goes n) e h = Byte.runs n e (λ bs. byte_leaves (stepped m at line b).next at line b bs ∙ ap (λ (x : Next). leaves x at line b bs) e)
-    by_next (Stops l c) e h = Byte.halts l c h (λ bs. byte_leaves (stepped m at line b).next at line b bs ∙ ap (λ (x : Next). leaves x at line b bs) e)
+    by_next (Goes n) e h =
+        Byte.runs n e (λ bs. byte_leaves (stepped m at line b).next at line b bs ∙ ap (λ (x : Next). leaves x at line b bs) e)
+    by_next (Stops l c) e h =
+        Byte.halts l c h (λ bs. byte_leaves (stepped m at line b).next at line b bs ∙ ap (λ (x : Next). leaves x at line b bs) e)
 
 stops_same : {l k : ℕ} {c d : SourceCause} → Stops l c ≡ Stops k d → l ≡ k
 stops_same e = cc
@@ -105,28 +123,37 @@ record Dies (m : Mode) (at line : ℕ) (text : List ℕ) (l : ℕ) (c : SourceCa
 
 dies : (text : List ℕ) (m : Mode) (at line l : ℕ) (c : SourceCause) → ends m at line (text ++ 10 ∷ []) ≡ Stops l c → Dies m at line text l c
 dies [] m at line l c h = elim (byte m at line 10) [
-  | Byte.halts k d e all ↦ record { not_before = omega (arith, e, stops_same (sym (all []) ∙ h)); dead = λ n q more. all more ∙ (sym (all []) ∙ h) }
+  | Byte.halts k d e all ↦ record {
+    not_before = omega (arith, e, stops_same (sym (all []) ∙ h));
+    dead = λ n q more. all more ∙ (sym (all []) ∙ h);
+  }
   | Byte.runs n e all ↦ absurd (goes_stops (sym (all []) ∙ h))
 ]
 dies (b ∷ bs) m at line l c h = elim (byte m at line b) [
-  | Byte.halts k d e all ↦ record { not_before = omega (arith, e, stops_same (sym (all (bs ++ 10 ∷ [])) ∙ h)); dead = λ n q more. all _ ∙ (sym (all (bs ++ 10 ∷ [])) ∙ h) }
+  | Byte.halts k d e all ↦ record {
+    not_before = omega (arith, e, stops_same (sym (all (bs ++ 10 ∷ [])) ∙ h));
+    dead = λ n q more. all _ ∙ (sym (all (bs ++ 10 ∷ [])) ∙ h);
+  }
   | Byte.runs n e all ↦ deeper n all (dies bs n (at + 1) (line_after line b) l c (sym (all (bs ++ 10 ∷ [])) ∙ h)) (b == 10) refl
 ]
   where
-    deeper : (n : Mode) → ((bs : List ℕ) → ends m at line (b ∷ bs) ≡ ends n (at + 1) (line_after line b) bs) → Dies n (at + 1) (line_after line b) bs l c → (t : Bool) → (b == 10) ≡ t → Dies m at line (b ∷ bs) l c
+    deeper : (n : Mode) → ((bs : List ℕ) → ends m at line (b ∷ bs) ≡ ends n (at + 1) (line_after line b) bs)
+        → Dies n (at + 1) (line_after line b) bs l c → (t : Bool) → (b == 10) ≡ t → Dies m at line (b ∷ bs) l c
     deeper n all w true t = record { not_before = omega (arith, w.not_before, line_newline line b t); dead = at_count }
       where
         at_count : (k : ℕ) → k + line ≡ l → (more : List ℕ) → ends m at line (first_lines (suc k) (b ∷ bs) ++ more) ≡ Stops l c
         at_count zero q more = absurd (omega (arith, w.not_before, line_newline line b t))
         at_count (suc k) q more =
             let rest : first_lines (suc (suc k)) (b ∷ bs) ≡ b ∷ first_lines (suc k) bs = rw t refl in
-            ap (λ (x : List ℕ). ends m at line (x ++ more)) rest ∙ (all (first_lines (suc k) bs ++ more) ∙ w.dead k (omega (arith, line_newline line b t)) more)
+            ap (λ (x : List ℕ). ends m at line (x ++ more)) rest
+            ∙ (all (first_lines (suc k) bs ++ more) ∙ w.dead k (omega (arith, line_newline line b t)) more)
     deeper n all w false t = record { not_before = omega (arith, w.not_before, line_stays line b t); dead = at_count }
       where
         at_count : (k : ℕ) → k + line ≡ l → (more : List ℕ) → ends m at line (first_lines (suc k) (b ∷ bs) ++ more) ≡ Stops l c
         at_count k q more =
             let rest : first_lines (suc k) (b ∷ bs) ≡ b ∷ first_lines (suc k) bs = rw t refl in
-            ap (λ (x : List ℕ). ends m at line (x ++ more)) rest ∙ (all (first_lines (suc k) bs ++ more) ∙ w.dead k (omega (arith, line_stays line b t)) more)
+            ap (λ (x : List ℕ). ends m at line (x ++ more)) rest
+            ∙ (all (first_lines (suc k) bs ++ more) ∙ w.dead k (omega (arith, line_stays line b t)) more)
 
 -- The lines before it leave nothing open but a comment.
 record Lives (m : Mode) (at line : ℕ) (text : List ℕ) (n : ℕ) : Type 0 where
@@ -136,8 +163,10 @@ record Lives (m : Mode) (at line : ℕ) (text : List ℕ) (n : ℕ) : Type 0 whe
   closed : IsClosed (Goes mode_then)
   goes_on : (more : List ℕ) → ends m at line (first_lines n text ++ more) ≡ ends mode_then at_then line_then more
 
-lives : (text : List ℕ) (m : Mode) (at line l : ℕ) (c : SourceCause) → ends m at line (text ++ 10 ∷ []) ≡ Stops l c → (n : ℕ) → (n ≡ 0 → IsClosed (Goes m)) → n + line ≤ l → Lives m at line text n
-lives text m at line l c h zero closed le = record { mode_then = m; at_then = at; line_then = line; closed = closed refl; goes_on = λ more. refl }
+lives : (text : List ℕ) (m : Mode) (at line l : ℕ) (c : SourceCause) → ends m at line (text ++ 10 ∷ []) ≡ Stops l c → (n : ℕ)
+    → (n ≡ 0 → IsClosed (Goes m)) → n + line ≤ l → Lives m at line text n
+lives text m at line l c h zero closed le =
+    record { mode_then = m; at_then = at; line_then = line; closed = closed refl; goes_on = λ more. refl }
 lives [] m at line l c h (suc n) closed le = elim (byte m at line 10) [
   | Byte.halts k d e all ↦ absurd (omega (arith, e, stops_same (sym (all []) ∙ h)))
   | Byte.runs n e all ↦ absurd (goes_stops (sym (all []) ∙ h))
@@ -147,7 +176,9 @@ lives (b ∷ bs) m at line l c h (suc n) closed le = elim (byte m at line b) [
   | Byte.runs k e all ↦ deeper k e all (lives bs k (at + 1) (line_after line b) l c (sym (all (bs ++ 10 ∷ [])) ∙ h)) (b == 10) refl
 ]
   where
-    behind : (k : Mode) (i : ℕ) → first_lines (suc n) (b ∷ bs) ≡ b ∷ first_lines i bs → ((bs : List ℕ) → ends m at line (b ∷ bs) ≡ ends k (at + 1) (line_after line b) bs) → Lives k (at + 1) (line_after line b) bs i → Lives m at line (b ∷ bs) (suc n)
+    behind : (k : Mode) (i : ℕ) → first_lines (suc n) (b ∷ bs) ≡ b ∷ first_lines i bs
+        → ((bs : List ℕ) → ends m at line (b ∷ bs) ≡ ends k (at + 1) (line_after line b) bs) → Lives k (at + 1) (line_after line b) bs i
+        → Lives m at line (b ∷ bs) (suc n)
     behind k i rest all w = record {
       mode_then = w.mode_then;
       at_then = w.at_then;
@@ -161,10 +192,13 @@ lives (b ∷ bs) m at line l c h (suc n) closed le = elim (byte m at line b) [
         let is : b ≡ 10 = eqb-true b 10 t in
         subst IsClosed (ap (λ (x : ℕ). (stepped m at line x).next) (sym is) ∙ e) (at_newline m at line)
 
-    deeper : (k : Mode) → (stepped m at line b).next ≡ Goes k → ((bs : List ℕ) → ends m at line (b ∷ bs) ≡ ends k (at + 1) (line_after line b) bs)
-        → ((i : ℕ) → (i ≡ 0 → IsClosed (Goes k)) → i + line_after line b ≤ l → Lives k (at + 1) (line_after line b) bs i) → (t : Bool) → (b == 10) ≡ t → Lives m at line (b ∷ bs) (suc n)
+    deeper : (k : Mode) → (stepped m at line b).next ≡ Goes k
+        → ((bs : List ℕ) → ends m at line (b ∷ bs) ≡ ends k (at + 1) (line_after line b) bs)
+        → ((i : ℕ) → (i ≡ 0 → IsClosed (Goes k)) → i + line_after line b ≤ l → Lives k (at + 1) (line_after line b) bs i) → (t : Bool)
+        → (b == 10) ≡ t → Lives m at line (b ∷ bs) (suc n)
     deeper k e all ih true t = behind k n (rw t refl) all (ih n (λ z. newline_closed k e t) (omega (arith, line_newline line b t)))
-    deeper k e all ih false t = behind k (suc n) (rw t refl) all (ih (suc n) (λ z. absurd (omega (arith, z))) (omega (arith, line_stays line b t)))
+    deeper k e all ih false t =
+        behind k (suc n) (rw t refl) all (ih (suc n) (λ z. absurd (omega (arith, z))) (omega (arith, line_stays line b t)))
 
 -- ---- whole texts
 
@@ -176,14 +210,19 @@ has_ends text (ws, lexed) =
 pub ends_has : (text : List ℕ) → ends mode.Between 0 1 (text ++ 10 ∷ []) ≡ Goes mode.Between → HasTokens text
 ends_has text h =
     let q = same (text ++ 10 ∷ []) mode.Between [] 0 1 refl (omega arith) in
-    let whole : (scan mode.Between [] 0 1 (text ++ 10 ∷ [])).ending ≡ Goes mode.Between = q.ending ∙ h in
-    ((scan mode.Between [] 0 1 (text ++ 10 ∷ [])).words, found (text ++ 10 ∷ []) [] 0 1 (scan mode.Between [] 0 1 (text ++ 10 ∷ [])).words refl (ap (λ (n : Next). record { words = (scan mode.Between [] 0 1 (text ++ 10 ∷ [])).words; ending = n }) whole))
+    let whole : (scan mode.Between [] 0 1 (text ++ 10 ∷ [])).ending ≡ Goes mode.Between = q.ending ∙ h in (
+      (scan mode.Between [] 0 1 (text ++ 10 ∷ [])).words,
+      found (text ++ 10 ∷ []) [] 0 1 (scan mode.Between [] 0 1 (text ++ 10 ∷ [])).words refl
+          (ap (λ (n : Next). record { words = (scan mode.Between [] 0 1 (text ++ 10 ∷ [])).words; ending = n }) whole),
+    )
 
-never : (text : List ℕ) (l : ℕ) (c : SourceCause) → ends mode.Between 0 1 (text ++ 10 ∷ []) ≡ Stops l c → (more : List ℕ) → HasTokens (first_lines l text ++ more) → ⊥
+never : (text : List ℕ) (l : ℕ) (c : SourceCause) → ends mode.Between 0 1 (text ++ 10 ∷ []) ≡ Stops l c → (more : List ℕ)
+    → HasTokens (first_lines l text ++ more) → ⊥
 never text zero c h more has = absurd (omega (arith, (dies text mode.Between 0 1 zero c h).not_before))
 never text (suc n) c h more has =
     let w = dies text mode.Between 0 1 (suc n) c h in
-    let e = ap (ends mode.Between 0 1) (append_assoc (first_lines (suc n) text) more (10 ∷ [])) ∙ w.dead n (omega arith) (more ++ 10 ∷ []) in
+    let e =
+    ap (ends mode.Between 0 1) (append_assoc (first_lines (suc n) text) more (10 ∷ [])) ∙ w.dead n (omega arith) (more ++ 10 ∷ []) in
     goes_stops (sym (has_ends (first_lines (suc n) text ++ more) has) ∙ e)
 
 -- what ends an open comment
@@ -204,15 +243,18 @@ closes (mode.Quote a) at line k = absurd k
 closes (mode.Text a) at line k = absurd k
 closes (mode.Escape a) at line k = absurd k
 
-goes_further : (text : List ℕ) (l : ℕ) (c : SourceCause) → ends mode.Between 0 1 (text ++ 10 ∷ []) ≡ Stops l c → (n : ℕ) → n < l → (more : List ℕ) × HasTokens (first_lines n text ++ more)
+goes_further : (text : List ℕ) (l : ℕ) (c : SourceCause) → ends mode.Between 0 1 (text ++ 10 ∷ []) ≡ Stops l c → (n : ℕ) → n < l
+    → (more : List ℕ) × HasTokens (first_lines n text ++ more)
 goes_further text l c h n lt =
     let w = lives text mode.Between 0 1 l c h n (λ z. tt) (omega arith) in (
       closing w.mode_then,
       ends_has (first_lines n text ++ closing w.mode_then)
-          (ap (ends mode.Between 0 1) (append_assoc (first_lines n text) (closing w.mode_then) (10 ∷ [])) ∙ (w.goes_on (closing w.mode_then ++ 10 ∷ []) ∙ closes w.mode_then w.at_then w.line_then w.closed)),
+          (ap (ends mode.Between 0 1) (append_assoc (first_lines n text) (closing w.mode_then) (10 ∷ []))
+          ∙ (w.goes_on (closing w.mode_then ++ 10 ∷ []) ∙ closes w.mode_then w.at_then w.line_then w.closed)),
     )
 
-pub refused_at : (text : List ℕ) (r : Result (Vec Token) SourceFault) → LexesTo r (token_scan mode.Between 0 1 (text ++ 10 ∷ [])) → RefusedAt text r
+pub refused_at : (text : List ℕ) (r : Result (Vec Token) SourceFault)
+    → LexesTo r (token_scan mode.Between 0 1 (text ++ 10 ∷ [])) → RefusedAt text r
 refused_at text (Ok v) h = tt
 refused_at text (Err fault.Memory) h = tt
 refused_at text (Err (fault.At l c)) (inl e) = λ other. (never text l c e, goes_further text l c e)

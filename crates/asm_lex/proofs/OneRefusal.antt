@@ -27,19 +27,30 @@ use Rattle.asm_lex.proofs.Breaking.{wrong_breaks, wrong_cause, comment_leaves, s
 abbrev Ends : ℕ → SourceCause → Next → Type 0
 Ends l c n = ((n ≡ Stops l c) × (c ≡ cause.OpenComment → ⊥)) ⊎ ((c ≡ cause.OpenComment) × (star : Bool) × (n ≡ Goes (comment_mode star l)))
 
-wrong_ends : {line l : ℕ} {text : List ℕ} {c : SourceCause} → Wrong line text l c → (seen : List ℕ) (at : ℕ) → length seen ≡ at → Ends l c (scan mode.Between seen at line text).ending
+wrong_ends : {line l : ℕ} {text : List ℕ} {c : SourceCause} → Wrong line text l c → (seen : List ℕ) (at : ℕ) → length seen ≡ at
+    → Ends l c (scan mode.Between seen at line text).ending
 wrong_ends {line} {l} {text} {c} (Wrong.gap piece rest e g more) seen at so =
-    let ending : (scan mode.Between seen at line text).ending ≡ (scan mode.Between (seen ++ piece) (at + length piece) (lines_after line piece) rest).ending = ap (λ (x : List ℕ). (scan mode.Between seen at line x).ending) e ∙ ap (λ (x : Scan). x.ending) (skip_gap piece rest g seen at line) in
+    let ending : (scan mode.Between seen at line text).ending
+    ≡ (scan mode.Between (seen ++ piece) (at + length piece) (lines_after line piece) rest).ending =
+    ap (λ (x : List ℕ). (scan mode.Between seen at line x).ending) e ∙ ap (λ (x : Scan). x.ending) (skip_gap piece rest g seen at line) in
     subst (Ends l c) (sym ending) (wrong_ends more (seen ++ piece) (at + length piece) (seen_more seen piece at so))
 wrong_ends {line} {l} {text} {c} (Wrong.token k piece rest e t more) seen at so =
-    let ending : (scan mode.Between seen at line text).ending ≡ (scan mode.Between (seen ++ piece) (at + length piece) (lines_after line piece) rest).ending = ap (λ (x : List ℕ). (scan mode.Between seen at line x).ending) e ∙ ap (λ (x : Scan). x.ending) (over_token k piece rest t seen at line so) in
+    let ending : (scan mode.Between seen at line text).ending
+    ≡ (scan mode.Between (seen ++ piece) (at + length piece) (lines_after line piece) rest).ending =
+    ap (λ (x : List ℕ). (scan mode.Between seen at line x).ending) e
+    ∙ ap (λ (x : Scan). x.ending) (over_token k piece rest t seen at line so) in
     subst (Ends l c) (sym ending) (wrong_ends more (seen ++ piece) (at + length piece) (seen_more seen piece at so))
 wrong_ends {line} {l} {text} {c} (Wrong.here piece rest next e is at_line) seen at so =
-    inl (ap (λ (x : List ℕ). (scan mode.Between seen at line x).ending) e ∙ (ap (λ (x : Scan). x.ending) (wrong_breaks piece rest next c is seen at line) ∙ ap (λ (x : ℕ). Stops x c) (sym at_line)), wrong_cause is)
+    inl (
+      ap (λ (x : List ℕ). (scan mode.Between seen at line x).ending) e
+          ∙ (ap (λ (x : Scan). x.ending) (wrong_breaks piece rest next c is seen at line) ∙ ap (λ (x : ℕ). Stops x c) (sym at_line)),
+      wrong_cause is,
+    )
 wrong_ends {line} (Wrong.open_comment {b} {d} {bs} k e u) seen at so =
     let stays : line_after line b ≡ line = class_line b line class.Slash k (λ x. cc) in
     let left = comment_leaves bs false ((seen ++ b ∷ []) ++ d ∷ []) (at + 1 + 1) (line_after (line_after line b) d) line u in
-    let opened : scan mode.Between seen at line (b ∷ d ∷ bs) ≡ scan (mode.Block line) ((seen ++ b ∷ []) ++ d ∷ []) (at + 1 + 1) (line_after (line_after line b) d) bs = rw (k, e, stays) refl in
+    let opened : scan mode.Between seen at line (b ∷ d ∷ bs) ≡ scan (mode.Block line) ((seen ++ b ∷ []) ++ d ∷ []) (at + 1 + 1)
+    (line_after (line_after line b) d) bs = rw (k, e, stays) refl in
     inr (refl, left.0, ap (λ (x : Scan). x.ending) opened ∙ left.1)
 
 comment_lines : (s t : Bool) (l k : ℕ) → Goes (comment_mode s l) ≡ Goes (comment_mode t k) → l ≡ k
@@ -67,12 +78,14 @@ refused_ends : (text : List ℕ) (l : ℕ) (c : SourceCause) → IsRefused text 
 refused_ends text l c w = wrong_ends w [] 0 refl
 
 pub one_refusal : (text : List ℕ) (l k : ℕ) (c d : SourceCause) → IsRefused text l c → IsRefused text k d → One l c k d
-one_refusal text l k c d p q = one_end (scan mode.Between [] 0 1 (text ++ 10 ∷ [])).ending l k c d (refused_ends text l c p) (refused_ends text k d q)
+one_refusal text l k c d p q =
+    one_end (scan mode.Between [] 0 1 (text ++ 10 ∷ [])).ending l k c d (refused_ends text l c p) (refused_ends text k d q)
 
 pub no_tokens : (text : List ℕ) (l : ℕ) (c : SourceCause) → IsRefused text l c → HasTokens text → ⊥
 no_tokens text l c p (ws, lexed) = by_end (refused_ends text l c p) (ap (λ (s : Scan). s.ending) (again lexed [] refl))
   where
-    by_end : Ends l c (scan mode.Between [] 0 1 (text ++ 10 ∷ [])).ending → (scan mode.Between [] 0 1 (text ++ 10 ∷ [])).ending ≡ Goes mode.Between → ⊥
+    by_end : Ends l c (scan mode.Between [] 0 1 (text ++ 10 ∷ [])).ending → (scan mode.Between [] 0 1 (text ++ 10 ∷ [])).ending
+        ≡ Goes mode.Between → ⊥
     by_end (inl (e, x)) h = let f : Stops l c ≡ Goes mode.Between = sym e ∙ h in absurd cc
     by_end (inr (x, s, e)) h = not_between s l (sym h ∙ e)
 
@@ -84,7 +97,8 @@ pub refused_line : (text : List ℕ) (l : ℕ) (c : SourceCause) → IsRefused t
 refused_line text l c p other = by_end (refused_ends text l c p)
   where
     by_end : Ends l c (scan mode.Between [] 0 1 (text ++ 10 ∷ [])).ending → IsFirstDead text l
-    by_end (inl (e, x)) = refused_at text (Err (fault.At l c)) (inl (sym (same (text ++ 10 ∷ []) mode.Between [] 0 1 refl (omega arith)).ending ∙ e)) other
+    by_end (inl (e, x)) =
+        refused_at text (Err (fault.At l c)) (inl (sym (same (text ++ 10 ∷ []) mode.Between [] 0 1 refl (omega arith)).ending ∙ e)) other
     by_end (inr (x, s, e)) = absurd (other x)
 
 not_later : (text : List ℕ) (l k : ℕ) → IsFirstDead text l → IsFirstDead text k → l < k → ⊥
@@ -97,14 +111,16 @@ one_dead_line text l k p q = let a = not_later text l k p q in let b = not_later
 pub refused_or_read : (text : List ℕ) → (HasTokens text → ⊥) → (l : ℕ) × (c : SourceCause) × IsRefused text l c
 refused_or_read text none = by_end (token_scan mode.Between 0 1 (text ++ 10 ∷ [])).ending refl (last_closed text mode.Between 0 1)
   where
-    by_end : (n : Next) → (token_scan mode.Between 0 1 (text ++ 10 ∷ [])).ending ≡ n → IsClosed (token_scan mode.Between 0 1 (text ++ 10 ∷ [])).ending → (l : ℕ) × (c : SourceCause) × IsRefused text l c
+    by_end : (n : Next) → (token_scan mode.Between 0 1 (text ++ 10 ∷ [])).ending ≡ n
+        → IsClosed (token_scan mode.Between 0 1 (text ++ 10 ∷ [])).ending → (l : ℕ) × (c : SourceCause) × IsRefused text l c
     by_end (Stops l c) e k = (l, c, refused_for text (Err (fault.At l c)) (inl e))
     by_end (Goes (mode.Block l)) e k = (l, cause.OpenComment, refused_for text (Err (fault.At l cause.OpenComment)) (inr (e, refl)))
     by_end (Goes mode.Between) e k = absurd (none (ends_has text e))
     by_end (Goes _) e k = absurd (subst IsClosed e k)
 
 -- what is refused in these words is refused so
-pub refused_only : (text : List ℕ) (r : Result (Vec Token) SourceFault) → LexesTo r (token_scan mode.Between 0 1 (text ++ 10 ∷ [])) → (l : ℕ) (c : SourceCause) → IsRefused text l c → RefusesAs l c r
+pub refused_only : (text : List ℕ) (r : Result (Vec Token) SourceFault) → LexesTo r (token_scan mode.Between 0 1 (text ++ 10 ∷ []))
+    → (l : ℕ) (c : SourceCause) → IsRefused text l c → RefusesAs l c r
 refused_only text (Ok v) h l c p = no_token_list text l c v.items p (are_tokens text (Ok v) h)
 refused_only text (Err fault.Memory) h l c p = tt
 refused_only text (Err (fault.At k d)) h l c p = one_refusal text k l d c (refused_for text (Err (fault.At k d)) h) p

@@ -25,7 +25,8 @@ token_length (IsToken.number k h b c) = omega arith
 token_length (IsToken.character k h) = omega arith
 token_length (IsToken.string k h) = omega arith
 
-spans : {at line : ℕ} {text : List ℕ} {ws : List Word} → Lexed at line text ws → (n : ℕ) → at + length text ≤ n → AreSpans at n (map token_of ws)
+spans : {at line : ℕ} {text : List ℕ} {ws : List Word} → Lexed at line text ws → (n : ℕ) → at + length text ≤ n
+    → AreSpans at n (map token_of ws)
 spans Lexed.none n h = tt
 spans {at} {line} {text} {ws} (Lexed.gap piece rest e g l) n h =
     let len = ap length e in
@@ -45,10 +46,12 @@ fewer (t ∷ ts) a n s =
     let count : length (t ∷ ts) - 1 ≡ length ts = omega arith in
     subst (λ (k : ℕ). AreSpans a n (take k (t ∷ ts))) (sym count) (but_last t ts a n s)
 
-pub are_spans : (text : List ℕ) (r : Result (Vec Token) SourceFault) → LexesTo r (token_scan between 0 1 (text ++ 10 ∷ [])) → IfOk r (λ v. AreSpans 0 (length text) v.items)
+pub are_spans : (text : List ℕ) (r : Result (Vec Token) SourceFault) → LexesTo r (token_scan between 0 1 (text ++ 10 ∷ []))
+    → IfOk r (λ v. AreSpans 0 (length text) v.items)
 are_spans text (Err f) h = tt
 are_spans text (Ok v) h = by_tokens (are_tokens text (Ok v) h)
   where
     by_tokens : AreTokens text v.items → AreSpans 0 (length text) v.items
     by_tokens (ws, lexed, is) =
-        subst (AreSpans 0 (length text)) (sym is) (fewer (map token_of ws) 0 (length text) (spans lexed (length text + 1) (omega (arith, length-append text (10 ∷ [])))))
+        subst (AreSpans 0 (length text)) (sym is)
+        (fewer (map token_of ws) 0 (length text) (spans lexed (length text + 1) (omega (arith, length-append text (10 ∷ [])))))

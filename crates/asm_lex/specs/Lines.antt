@@ -19,7 +19,8 @@ HasTokens text = (ws : List Word) × LexedSource text ws
 
 -- No text that begins with the lines up to this one has tokens, and with the lines before it one begins that has.
 abbrev pub IsFirstDead : List ℕ → ℕ → Type 0
-IsFirstDead text line = ((more : List ℕ) → HasTokens (first_lines line text ++ more) → ⊥) × ((n : ℕ) → n < line → (more : List ℕ) × HasTokens (first_lines n text ++ more))
+IsFirstDead text line = ((more : List ℕ) → HasTokens (first_lines line text ++ more) → ⊥)
+    × ((n : ℕ) → n < line → (more : List ℕ) × HasTokens (first_lines n text ++ more))
 
 -- the line of a refusal, but of a comment that doesn't end
 abbrev pub RefusedAt : List ℕ → Result (Vec Token) SourceFault → Type 0

@@ -23,10 +23,16 @@ pub data IsWrong : List ℕ → ℕ → SourceCause → Type 0 where
   foreign : {next : ℕ} → class_of next ≡ class.Foreign → IsWrong [] next cause.NotAscii
   other : {next : ℕ} → class_of next ≡ class.Other → IsWrong [] next cause.BadCharacter
   slash : {b next : ℕ} → class_of b ≡ class.Slash → (next == 42) ≡ false → IsWrong (b ∷ []) next cause.BadCharacter
-  in_line : {b next : ℕ} {bs : List ℕ} → class_of b ≡ class.Hash → list_all is_inside_line bs ≡ true → is_source next ≡ false → IsWrong (b ∷ bs) next cause.NotAscii
-  in_comment : {b c next : ℕ} {bs : List ℕ} → class_of b ≡ class.Slash → (c == 42) ≡ true → is_unclosed false bs ≡ true → is_source next ≡ false → IsWrong (b ∷ c ∷ bs) next cause.NotAscii
-  number : {b next : ℕ} {bs : List ℕ} → class_of b ≡ class.Digit → list_all is_word bs ≡ true → is_word next ≡ false → is_numeral (b ∷ bs) ≡ false → IsWrong (b ∷ bs) next cause.BadNumber
+  in_line : {b next : ℕ} {bs : List ℕ} → class_of b ≡ class.Hash → list_all is_inside_line bs ≡ true → is_source next ≡ false
+      → IsWrong (b ∷ bs) next cause.NotAscii
+  in_comment : {b c next : ℕ} {bs : List ℕ} → class_of b ≡ class.Slash → (c == 42) ≡ true → is_unclosed false bs ≡ true
+      → is_source next ≡ false → IsWrong (b ∷ c ∷ bs) next cause.NotAscii
+  number : {b next : ℕ} {bs : List ℕ} → class_of b ≡ class.Digit → list_all is_word bs ≡ true → is_word next ≡ false
+      → is_numeral (b ∷ bs) ≡ false → IsWrong (b ∷ bs) next cause.BadNumber
   character : {b next : ℕ} → class_of b ≡ class.SingleQuote → is_inside_line next ≡ false → IsWrong (b ∷ []) next cause.BadNumber
-  in_string : {b next : ℕ} {bs : List ℕ} → class_of b ≡ class.DoubleQuote → IsInString false bs false → is_source next ≡ false → IsWrong (b ∷ bs) next cause.NotAscii
-  open_string : {b next : ℕ} {bs : List ℕ} (escaped : Bool) → class_of b ≡ class.DoubleQuote → IsInString false bs escaped → (next == 10) ≡ true → IsWrong (b ∷ bs) next cause.OpenString
-  escape : {b next : ℕ} {bs : List ℕ} → class_of b ≡ class.DoubleQuote → IsInString false bs true → (next == 10) ≡ false → is_escape next ≡ false → IsWrong (b ∷ bs) next cause.BadEscape
+  in_string : {b next : ℕ} {bs : List ℕ} → class_of b ≡ class.DoubleQuote → IsInString false bs false → is_source next ≡ false
+      → IsWrong (b ∷ bs) next cause.NotAscii
+  open_string : {b next : ℕ} {bs : List ℕ} (escaped : Bool) → class_of b ≡ class.DoubleQuote → IsInString false bs escaped
+      → (next == 10) ≡ true → IsWrong (b ∷ bs) next cause.OpenString
+  escape : {b next : ℕ} {bs : List ℕ} → class_of b ≡ class.DoubleQuote → IsInString false bs true → (next == 10) ≡ false
+      → is_escape next ≡ false → IsWrong (b ∷ bs) next cause.BadEscape

@@ -14,10 +14,14 @@ use Rattle.asm_lex.specs.Refusals.{is_unclosed, IsWrong}
 
 -- The bytes from this line on are words and what stands between them up to what is wrong, which has this line and cause.
 pub data Wrong : ℕ → List ℕ → ℕ → SourceCause → Type 0 where
-  gap : {line l : ℕ} {text : List ℕ} {c : SourceCause} (piece rest : List ℕ) → text ≡ piece ++ rest → IsGap piece rest → Wrong (lines_after line piece) rest l c → Wrong line text l c
-  token : {line l : ℕ} {text : List ℕ} {c : SourceCause} (k : TokenKind) (piece rest : List ℕ) → text ≡ piece ++ rest → IsToken k piece rest → Wrong (lines_after line piece) rest l c → Wrong line text l c
-  here : {line l : ℕ} {text : List ℕ} {c : SourceCause} (piece rest : List ℕ) (next : ℕ) → text ≡ piece ++ next ∷ rest → IsWrong piece next c → l ≡ lines_after line piece → Wrong line text l c
-  open_comment : {line : ℕ} {b d : ℕ} {bs : List ℕ} → class_of b ≡ class.Slash → (d == 42) ≡ true → is_unclosed false bs ≡ true → Wrong line (b ∷ d ∷ bs) line cause.OpenComment
+  gap : {line l : ℕ} {text : List ℕ} {c : SourceCause} (piece rest : List ℕ) → text ≡ piece ++ rest → IsGap piece rest
+      → Wrong (lines_after line piece) rest l c → Wrong line text l c
+  token : {line l : ℕ} {text : List ℕ} {c : SourceCause} (k : TokenKind) (piece rest : List ℕ) → text ≡ piece ++ rest → IsToken k piece rest
+      → Wrong (lines_after line piece) rest l c → Wrong line text l c
+  here : {line l : ℕ} {text : List ℕ} {c : SourceCause} (piece rest : List ℕ) (next : ℕ) → text ≡ piece ++ next ∷ rest
+      → IsWrong piece next c → l ≡ lines_after line piece → Wrong line text l c
+  open_comment : {line : ℕ} {b d : ℕ} {bs : List ℕ} → class_of b ≡ class.Slash → (d == 42) ≡ true → is_unclosed false bs ≡ true
+      → Wrong line (b ∷ d ∷ bs) line cause.OpenComment
 
 -- the line and the cause of what is wrong first
 abbrev pub IsRefused : List ℕ → ℕ → SourceCause → Type 0

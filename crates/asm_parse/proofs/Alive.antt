@@ -84,7 +84,8 @@ behind_ends sc None = tt
 behind_ends sc (Some e) = complete_ends sc e.0 e.1 (e.2 ++ e.3 ∷ [])
 
 argument_ends : (sc : ScopeView) (o : Open) → Ends (argument_step sc o terminal.End)
-argument_ends sc o = either (is_bare o) _ _ (complete_ends sc o.line o.head o.arguments) (either (is_finished o.so_far) _ _ (behind_ends sc (ended o)) (shape_ends sc o (shape_at o.head (length o.arguments))))
+argument_ends sc o = either (is_bare o) _ _ (complete_ends sc o.line o.head o.arguments)
+    (either (is_finished o.so_far) _ _ (behind_ends sc (ended o)) (shape_ends sc o (shape_at o.head (length o.arguments))))
 
 directive_ends : (sc : ScopeView) (line : ℕ) (n : List ℕ) (d : Option Directive) → Ends (of_directive d sc line n terminal.End)
 directive_ends sc line n None = tt
@@ -104,7 +105,9 @@ directive_ends sc line n (Some directive.Common) = argument_ends sc (nothing_yet
 -- The end of a statement leaves nothing open.
 pub end_ends : (sc : ScopeView) (st : StatementState) (line : ℕ) → Ends (step sc st line terminal.End)
 end_ends sc state.Start line = refl
-end_ends sc (state.Named b n) line = either (is_passed sc n) _ _ refl (either (is_dotted n) _ _ (directive_ends sc b n (directive_of n)) (either (is_rep n) _ _ tt (argument_ends sc (nothing_yet b (head.Instruction false n)))))
+end_ends sc (state.Named b n) line = either (is_passed sc n) _ _ refl
+    (either (is_dotted n) _ _ (directive_ends sc b n (directive_of n))
+    (either (is_rep n) _ _ tt (argument_ends sc (nothing_yet b (head.Instruction false n)))))
 end_ends sc state.Skip line = refl
 end_ends sc (state.Sectioned b n m e) line = refl
 end_ends sc (state.Flags b n m) line = refl
@@ -119,7 +122,8 @@ LastEnd (Goes mode.Between) (Some t) = t.kind ≡ kind.End
 LastEnd (Goes _) t = Unit {0}
 LastEnd (Stops l c) t = Unit {0}
 
-number_end : (s : ℕ) (at line : ℕ) (t : Bool) → LastEnd (cond t (after kind.Number s at line 10) (stops line cause.BadNumber)).next (cond t (after kind.Number s at line 10) (stops line cause.BadNumber)).second
+number_end : (s : ℕ) (at line : ℕ) (t : Bool) → LastEnd (cond t (after kind.Number s at line 10) (stops line cause.BadNumber)).next
+    (cond t (after kind.Number s at line 10) (stops line cause.BadNumber)).second
 unfolding class_of is_mark is_letter is_word
 number_end s at line true = refl
 number_end s at line false = tt
@@ -156,16 +160,20 @@ with_ends e (Err c) h = tt
 end_word : (sc : ScopeView) (st : StatementState) (w : Word) → w.kind ≡ kind.End → Ends (next_word sc st w)
 end_word sc st w h =
     let terminal : terminal_of w.kind w.bytes ≡ terminal.End = ap (λ (k : TokenKind). terminal_of k w.bytes) h in
-    let none : is_longer st w.at w.kind w.bytes ≡ false = ap (λ (k : TokenKind). is_longer st w.at k w.bytes) h ∙ not_longer st w.at w.bytes in
-    let ends : Ends (next_step sc st w.line (terminal_of w.kind w.bytes)) = subst (λ (s : Terminal). Ends (next_step sc st w.line s)) (sym terminal) (end_ends sc st w.line) in
+    let none : is_longer st w.at w.kind w.bytes ≡ false =
+    ap (λ (k : TokenKind). is_longer st w.at k w.bytes) h ∙ not_longer st w.at w.bytes in
+    let ends : Ends (next_step sc st w.line (terminal_of w.kind w.bytes)) =
+    subst (λ (s : Terminal). Ends (next_step sc st w.line s)) (sym terminal) (end_ends sc st w.line) in
     rw none (with_ends (w.at + length w.bytes) (next_step sc st w.line (terminal_of w.kind w.bytes)) ends)
 
-fed_end : (sc : ScopeView) (st : StatementState) (seen : List ℕ) (line : ℕ) (t : Option Token) (z : ScopeView × StatementState) → LastEnd (Goes mode.Between) t → fed sc st seen line t ≡ Ok z → z.1 ≡ state.Start
+fed_end : (sc : ScopeView) (st : StatementState) (seen : List ℕ) (line : ℕ) (t : Option Token) (z : ScopeView × StatementState)
+    → LastEnd (Goes mode.Between) t → fed sc st seen line t ≡ Ok z → z.1 ≡ state.Start
 fed_end sc st seen line None z h e = absurd h
 fed_end sc st seen line (Some t) z h e =
     placed_ends (fault_line sc st line) (next_word sc st (word_of seen line t)) z (end_word sc st (word_of seen line t) h) e
 
-does_end : (sc : ScopeView) (st : StatementState) (seen : List ℕ) (line : ℕ) (s : Stepped) (x : ScopeView × StatementState × Mode) → LastEnd s.next s.second → byte_does sc st seen line s ≡ Ok x → x.2 ≡ mode.Between → x.1 ≡ state.Start
+does_end : (sc : ScopeView) (st : StatementState) (seen : List ℕ) (line : ℕ) (s : Stepped) (x : ScopeView × StatementState × Mode)
+    → LastEnd s.next s.second → byte_does sc st seen line s ≡ Ok x → x.2 ≡ mode.Between → x.1 ≡ state.Start
 does_end sc st seen line s x last h m =
     let y = bind_ok (fed sc st seen line s.first) (λ y. second_does y.0 y.1 seen line s.second s.next) x h in
     let z = bind_ok (fed y.0.0 y.0.1 seen line s.second) (λ z. goes_on line z s.next) x y.2 in
@@ -178,20 +186,27 @@ pub newline_state : (r t : Running) → run r (10 ∷ []) ≡ Ok t → t.mode �
 unfolding one_byte one_byte_over
 newline_state r t h m =
     let s = bind_ok (one_byte r 10) (λ s. run s []) t h in
-    let x = bind_ok (byte_does r.scope r.state (r.seen ++ 10 ∷ []) r.line (stepped r.mode r.at r.line 10)) (λ x. Ok (moved r 10 x)) s.0 s.1 in
-    at_last x.0 (λ k. does_end r.scope r.state (r.seen ++ 10 ∷ []) r.line (stepped r.mode r.at r.line 10) x.0 (last_end r.mode r.at r.line) x.1 k) (x.2 ∙ s.2)
+    let x =
+    bind_ok (byte_does r.scope r.state (r.seen ++ 10 ∷ []) r.line (stepped r.mode r.at r.line 10)) (λ x. Ok (moved r 10 x)) s.0 s.1 in
+    at_last x.0 (λ k. does_end r.scope r.state (r.seen ++ 10 ∷ []) r.line (stepped r.mode r.at r.line 10) x.0
+    (last_end r.mode r.at r.line) x.1 k) (x.2 ∙ s.2)
   where
-    at_last : (x : ScopeView × StatementState × Mode) → (x.2 ≡ mode.Between → x.1 ≡ state.Start) → ◌≡◌ {A = Result Running Fault} (Ok (moved r 10 x)) (Ok t) → t.state ≡ state.Start
+    at_last : (x : ScopeView × StatementState × Mode) → (x.2 ≡ mode.Between → x.1 ≡ state.Start)
+        → ◌≡◌ {A = Result Running Fault} (Ok (moved r 10 x)) (Ok t) → t.state ≡ state.Start
     at_last x k e = let g : moved r 10 x ≡ t = cc in ap (λ (y : Running). y.state) (sym g) ∙ k (ap (λ (y : Running). y.mode) g ∙ m)
 
 -- nothing is open, so one newline more is read
-ready : (sc : ScopeView) (seen : List ℕ) (at line : ℕ) → (t : Running) × (run (record { scope = sc; state = state.Start; mode = mode.Between; seen = seen; at = at; line = line }) (10 ∷ []) ≡ Ok t) × (closed t t.mode ≡ Ok t)
+ready : (sc : ScopeView) (seen : List ℕ) (at line : ℕ) → (t : Running)
+    × (run (record { scope = sc; state = state.Start; mode = mode.Between; seen = seen; at = at; line = line }) (10 ∷ []) ≡ Ok t)
+    × (closed t t.mode ≡ Ok t)
 unfolding one_byte one_byte_over class_of is_mark
 ready sc seen at line = (_, refl, refl)
 
-ready_at : (s : Running) → s.mode ≡ mode.Between → s.state ≡ state.Start → (t : Running) × (run s (10 ∷ []) ≡ Ok t) × (closed t t.mode ≡ Ok t)
+ready_at : (s : Running) → s.mode ≡ mode.Between → s.state ≡ state.Start → (t : Running) × (run s (10 ∷ []) ≡ Ok t)
+    × (closed t t.mode ≡ Ok t)
 ready_at s m st =
-    let is : record { scope = s.scope; state = state.Start; mode = mode.Between; seen = s.seen; at = s.at; line = s.line } ≡ s = rw (← m, ← st) refl in
+    let is : record { scope = s.scope; state = state.Start; mode = mode.Between; seen = s.seen; at = s.at; line = s.line } ≡ s =
+    rw (← m, ← st) refl in
     subst (λ (q : Running). (t : Running) × (run q (10 ∷ []) ≡ Ok t) × (closed t t.mode ≡ Ok t)) is (ready s.scope s.seen s.at s.line)
 
 pub run_two : (r s : Running) (bs cs : List ℕ) → run r bs ≡ Ok s → run r (bs ++ cs) ≡ run s cs
@@ -204,7 +219,8 @@ pub lines_end : (text : List ℕ) (n : ℕ) → (p : List ℕ) × (first_lines (
 lines_end [] n = ([], refl)
 lines_end (b ∷ bs) n = by_newline (b == 10) refl n (λ m. lines_end bs m)
   where
-    by_newline : (t : Bool) → (b == 10) ≡ t → (n : ℕ) → ((m : ℕ) → (p : List ℕ) × (first_lines (suc m) bs ≡ p ++ 10 ∷ [])) → (p : List ℕ) × (first_lines (suc n) (b ∷ bs) ≡ p ++ 10 ∷ [])
+    by_newline : (t : Bool) → (b == 10) ≡ t → (n : ℕ) → ((m : ℕ) → (p : List ℕ) × (first_lines (suc m) bs ≡ p ++ 10 ∷ [])) → (p : List ℕ)
+        × (first_lines (suc n) (b ∷ bs) ≡ p ++ 10 ∷ [])
     by_newline true e zero ih = ([], rw (e, eqb-true _ _ e) refl)
     by_newline true e (suc n) ih = let g = ih n in (b ∷ g.0, rw e (ap (λ (x : List ℕ). b ∷ x) g.1))
     by_newline false e n ih = let g = ih n in (b ∷ g.0, rw e (ap (λ (x : List ℕ). b ∷ x) g.1))

@@ -40,8 +40,10 @@ terminal_either false a b p q = q
 
 mark_is : (m : ℕ) → TerminalIs IsName (mark_terminal m)
 mark_is m =
-    terminal_either (m == 36) _ _ tt (terminal_either (m == 37) _ _ tt (terminal_either (m == 40) _ _ tt (terminal_either (m == 41) _ _ tt (terminal_either (m == 42) _ _ tt
-    (terminal_either (m == 43) _ _ tt (terminal_either (m == 44) _ _ tt (terminal_either (m == 45) _ _ tt (terminal_either (m == 58) _ _ tt tt))))))))
+    terminal_either (m == 36) _ _ tt
+    (terminal_either (m == 37) _ _ tt (terminal_either (m == 40) _ _ tt (terminal_either (m == 41) _ _ tt (terminal_either (m == 42) _ _ tt
+    (terminal_either (m == 43) _ _ tt
+    (terminal_either (m == 44) _ _ tt (terminal_either (m == 45) _ _ tt (terminal_either (m == 58) _ _ tt tt))))))))
 
 number_is : (n : ℕ) → TerminalIs IsName (number_terminal n)
 number_is n = terminal_either (nat_lt n (2 ^ 32)) _ _ tt tt
@@ -76,7 +78,8 @@ pub record Fine (y : ScopeView × StatementState) : Type 0 where
   pub scope : GoodIn IsName y.0
   pub state : StateIs IsName y.1
 
-pub words_fine : (ws : List Word) (sc : ScopeView) (st : StatementState) (y : ScopeView × StatementState) → AreNamed ws → GoodIn IsName sc → StateIs IsName st → read_words sc st ws ≡ Ok y → Fine y
+pub words_fine : (ws : List Word) (sc : ScopeView) (st : StatementState) (y : ScopeView × StatementState) → AreNamed ws → GoodIn IsName sc
+    → StateIs IsName st → read_words sc st ws ≡ Ok y → Fine y
 words_fine [] sc st y are g is h = let e : (sc, st) ≡ y = cc in subst Fine e (record { scope = g; state = is })
 words_fine (w ∷ ws) sc st y are g is h =
     let z = bind_ok (placed (fault_line sc st w.line) (next_word sc st w)) (λ z. read_words z.0 z.1 ws) y h in
@@ -92,7 +95,8 @@ seen_byte r s b h e =
     at_last x.0 x.2
   where
     at_last : (x : ScopeView × StatementState × Mode) → ◌≡◌ {A = Result Running Fault} (Ok (moved r b x)) (Ok s) → length s.seen ≡ s.at
-    at_last x k = let g : moved r b x ≡ s = cc in subst (λ (y : Running). length y.seen ≡ y.at) g (length-append r.seen (b ∷ []) ∙ ap (λ (n : ℕ). n + 1) e)
+    at_last x k = let g : moved r b x ≡ s =
+        cc in subst (λ (y : Running). length y.seen ≡ y.at) g (length-append r.seen (b ∷ []) ∙ ap (λ (n : ℕ). n + 1) e)
 
 seen_run : (bs : List ℕ) (r t : Running) → run r bs ≡ Ok t → length r.seen ≡ r.at → length t.seen ≡ t.at
 seen_run [] r t h e = let g : r ≡ t = cc in subst (λ (y : Running). length y.seen ≡ y.at) g e
@@ -113,11 +117,13 @@ record Closes (s : Running) : Type 0 where
   scope : last.scope ≡ s.scope
   state : last.state ≡ s.state
 
-block_closes : (sc : ScopeView) (st : StatementState) (seen : List ℕ) (at line l : ℕ) → Closes (record { scope = sc; state = st; mode = mode.Block l; seen = seen; at = at; line = line })
+block_closes : (sc : ScopeView) (st : StatementState) (seen : List ℕ) (at line l : ℕ)
+    → Closes (record { scope = sc; state = st; mode = mode.Block l; seen = seen; at = at; line = line })
 unfolding one_byte one_byte_over class_of is_mark is_source
 block_closes sc st seen at line l = record { last = _; runs = refl; between = refl; scope = refl; state = refl }
 
-closes : (sc : ScopeView) (st : StatementState) (m : Mode) (seen : List ℕ) (at line : ℕ) → IsClosed (Goes m) → Closes (record { scope = sc; state = st; mode = m; seen = seen; at = at; line = line })
+closes : (sc : ScopeView) (st : StatementState) (m : Mode) (seen : List ℕ) (at line : ℕ) → IsClosed (Goes m)
+    → Closes (record { scope = sc; state = st; mode = m; seen = seen; at = at; line = line })
 closes sc st mode.Between seen at line k = record { last = _; runs = refl; between = refl; scope = refl; state = refl }
 closes sc st (mode.Block l) seen at line k = block_closes sc st seen at line l
 closes sc st mode.Slash seen at line k = absurd k
@@ -130,22 +136,30 @@ closes sc st (mode.Text a) seen at line k = absurd k
 closes sc st (mode.Escape a) seen at line k = absurd k
 
 -- after a comment, or none
-between_goes_on : (p : List ℕ) (t : Running) → run start p ≡ Ok t → t.mode ≡ mode.Between → doom t.scope t.state ≡ None → (more : List ℕ) × IsRead (p ++ more)
+between_goes_on : (p : List ℕ) (t : Running) → run start p ≡ Ok t → t.mode ≡ mode.Between → doom t.scope t.state ≡ None → (more : List ℕ)
+    × IsRead (p ++ more)
 between_goes_on p t h between alive =
     let l = link p start t h in
-    let whole : scan mode.Between [] 0 1 p ≡ record { words = (scan mode.Between [] 0 1 p).words; ending = Goes mode.Between } = ap (λ (n : Next). record { words = (scan mode.Between [] 0 1 p).words; ending = n }) (l.ending ∙ ap Goes between) in
+    let whole : scan mode.Between [] 0 1 p ≡ record { words = (scan mode.Between [] 0 1 p).words; ending = Goes mode.Between } =
+    ap (λ (n : Next). record { words = (scan mode.Between [] 0 1 p).words; ending = n }) (l.ending ∙ ap Goes between) in
     let lexed = found p [] 0 1 (scan mode.Between [] 0 1 p).words refl whole in
-    let fine = words_fine (scan mode.Between [] 0 1 p).words fresh state.Start (t.scope, t.state) (lexed_named lexed) (fresh_good IsName) tt l.words in
+    let fine = words_fine (scan mode.Between [] 0 1 p).words fresh state.Start (t.scope, t.state) (lexed_named lexed)
+    (fresh_good IsName) tt l.words in
     let d = completed t.scope t.state fine.scope fine.state alive in
-    let s : scan t.mode t.seen t.at t.line (written d.pieces) ≡ record { words = words_at t.at t.line d.pieces; ending = Goes mode.Between } =
-    ap (λ (m : Mode). scan m t.seen t.at t.line (written d.pieces)) between ∙ again (written_lexed d.pieces d.are t.at t.line) t.seen (seen_run p start t h refl) in
-    let u = unlink (written d.pieces) t mode.Between (d.last, state.Start) (ap (λ (x : Scan). x.ending) s) (ap (λ (x : Scan). read_words t.scope t.state x.words) s ∙ d.runs t.at t.line) in (
+    let s : scan t.mode t.seen t.at t.line (written d.pieces)
+    ≡ record { words = words_at t.at t.line d.pieces; ending = Goes mode.Between } =
+    ap (λ (m : Mode). scan m t.seen t.at t.line (written d.pieces)) between ∙ again (written_lexed d.pieces d.are t.at t.line) t.seen
+    (seen_run p start t h refl) in
+    let u = unlink (written d.pieces) t mode.Between (d.last, state.Start) (ap (λ (x : Scan). x.ending) s)
+    (ap (λ (x : Scan). read_words t.scope t.state x.words) s ∙ d.runs t.at t.line) in (
       written d.pieces,
-      has_reading (p ++ written d.pieces) u.last (run_two start t p (written d.pieces) h ∙ u.runs) u.same_mode (ap (λ (x : ScopeView × StatementState). x.1) u.same),
+      has_reading (p ++ written d.pieces) u.last (run_two start t p (written d.pieces) h ∙ u.runs) u.same_mode
+          (ap (λ (x : ScopeView × StatementState). x.1) u.same),
     )
 
 -- Where nothing is dead some text goes on.
-pub closed_goes_on : (p : List ℕ) (s : Running) → run start p ≡ Ok s → IsClosed (Goes s.mode) → doom s.scope s.state ≡ None → (more : List ℕ) × IsRead (p ++ more)
+pub closed_goes_on : (p : List ℕ) (s : Running) → run start p ≡ Ok s → IsClosed (Goes s.mode) → doom s.scope s.state ≡ None
+    → (more : List ℕ) × IsRead (p ++ more)
 closed_goes_on p s h k alive =
     let c = closes s.scope s.state s.mode s.seen s.at s.line k in
     let runs : run start (p ++ closing s.mode) ≡ Ok c.last = run_two start s p (closing s.mode) h ∙ c.runs in

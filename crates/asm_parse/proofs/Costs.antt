@@ -63,7 +63,13 @@ string_shorter : (e : Escape) (bs : List ℕ) → length (string_text e bs) ≤ 
 string_shorter e [] = omega arith
 string_shorter e (b ∷ bs) =
     let g = escape_step e b in
-    omega (arith, step_gives e b, string_shorter (escape_step e b).next bs, length-append (option_to_list (escape_step e b).first ++ option_to_list (escape_step e b).second) (string_text (escape_step e b).next bs))
+    omega (
+      arith,
+      step_gives e b,
+      string_shorter (escape_step e b).next bs,
+      length-append (option_to_list (escape_step e b).first ++ option_to_list (escape_step e b).second)
+          (string_text (escape_step e b).next bs),
+    )
 
 -- ---- tokens
 
@@ -73,7 +79,8 @@ one_either false a b p q = q
 
 mark_cost : (m : ℕ) → cost (mark_terminal m) ≡ 1
 mark_cost m =
-    one_either (m == 36) _ _ refl (one_either (m == 37) _ _ refl (one_either (m == 40) _ _ refl (one_either (m == 41) _ _ refl (one_either (m == 42) _ _ refl
+    one_either (m == 36) _ _ refl
+    (one_either (m == 37) _ _ refl (one_either (m == 40) _ _ refl (one_either (m == 41) _ _ refl (one_either (m == 42) _ _ refl
     (one_either (m == 43) _ _ refl (one_either (m == 44) _ _ refl (one_either (m == 45) _ _ refl (one_either (m == 58) _ _ refl refl))))))))
 
 number_cost : (n : ℕ) → cost (number_terminal n) ≡ 1
@@ -87,9 +94,12 @@ token_pays : (k : TokenKind) (piece rest : List ℕ) → IsToken k piece rest �
 token_pays k piece rest (IsToken.end h) = record { some = omega arith; pays = omega arith }
 token_pays k piece rest (IsToken.mark {b} h) = record { some = omega arith; pays = omega (arith, mark_cost b) }
 token_pays k piece rest (IsToken.name {b} {bs} h g f) = record { some = omega arith; pays = omega arith }
-token_pays k piece rest (IsToken.number {b} {bs} h g f e) = record { some = omega arith; pays = omega (arith, number_cost (number_value (b ∷ bs))) }
-token_pays k piece rest (IsToken.character {b} {c} h g) = record { some = omega arith; pays = omega (arith, number_cost (number_value (b ∷ c ∷ []))) }
-token_pays k piece rest (IsToken.string {b} {bs} h g) = record { some = omega arith; pays = omega (arith, string_shorter escape.Open (b ∷ bs)) }
+token_pays k piece rest (IsToken.number {b} {bs} h g f e) =
+    record { some = omega arith; pays = omega (arith, number_cost (number_value (b ∷ bs))) }
+token_pays k piece rest (IsToken.character {b} {c} h g) =
+    record { some = omega arith; pays = omega (arith, number_cost (number_value (b ∷ c ∷ []))) }
+token_pays k piece rest (IsToken.string {b} {bs} h g) =
+    record { some = omega arith; pays = omega (arith, string_shorter escape.Open (b ∷ bs)) }
 
 -- the bytes of words
 abbrev pub weight : List Word → ℕ
@@ -115,8 +125,16 @@ pub lexed_pays : {at line : ℕ} {text : List ℕ} {ws : List Word} → Lexed at
 lexed_pays Lexed.none = record { count = omega arith; bytes = omega arith; each = tt }
 lexed_pays (Lexed.gap piece rest e gap l) =
     let p = lexed_pays l in
-    record { count = omega (arith, ap length e, length-append piece rest, p.count); bytes = omega (arith, ap length e, length-append piece rest, p.bytes); each = p.each }
+    record {
+      count = omega (arith, ap length e, length-append piece rest, p.count);
+      bytes = omega (arith, ap length e, length-append piece rest, p.bytes);
+      each = p.each;
+    }
 lexed_pays (Lexed.token k piece rest e is l) =
     let p = lexed_pays l in
     let t = token_pays k piece rest is in
-    record { count = omega (arith, ap length e, length-append piece rest, p.count, t.some); bytes = omega (arith, ap length e, length-append piece rest, p.bytes); each = (t.pays, p.each) }
+    record {
+      count = omega (arith, ap length e, length-append piece rest, p.count, t.some);
+      bytes = omega (arith, ap length e, length-append piece rest, p.bytes);
+      each = (t.pays, p.each);
+    }

@@ -55,7 +55,8 @@ shape_later sc o s (Some sh) = step_later sc o s (operand_step sh o.so_far s)
 within_later : (sc : ScopeView) (o : Open) (s : Terminal) → IsLater (within sc o s)
 within_later sc o s = shape_later sc o s (shape_at o.head (length o.arguments))
 
-next_later : (sc : ScopeView) (line : ℕ) (h : Head) (done : List Argument) (r : Option Shape) → IsLater (with_scope sc (argument_of line h done r))
+next_later : (sc : ScopeView) (line : ℕ) (h : Head) (done : List Argument) (r : Option Shape)
+    → IsLater (with_scope sc (argument_of line h done r))
 next_later sc line h done None = tt
 next_later sc line h done (Some sh) = refl
 
@@ -72,7 +73,8 @@ end_later sc (Some e) = complete_later sc e.0 e.1 (e.2 ++ e.3 ∷ [])
 
 argument_later : (sc : ScopeView) (o : Open) (s : Terminal) → IsLater (argument_step sc o s)
 argument_later sc o terminal.Comma = either (is_finished o.so_far) _ _ (comma_later sc (ended o)) (within_later sc o terminal.Comma)
-argument_later sc o terminal.End = either (is_bare o) _ _ (complete_later sc o.line o.head o.arguments) (either (is_finished o.so_far) _ _ (end_later sc (ended o)) (within_later sc o terminal.End))
+argument_later sc o terminal.End = either (is_bare o) _ _ (complete_later sc o.line o.head o.arguments)
+    (either (is_finished o.so_far) _ _ (end_later sc (ended o)) (within_later sc o terminal.End))
 argument_later sc o terminal.Star = either (takes_star o) _ _ refl (within_later sc o terminal.Star)
 argument_later sc o s = within_later sc o s
 
@@ -104,7 +106,9 @@ labelled_later line n (Err c) = tt
 
 named_later : (sc : ScopeView) (b : ℕ) (n : List ℕ) (s : Terminal) → IsLater (named_step sc b n s)
 named_later sc b n terminal.Colon = either sc.skipping _ _ refl (labelled_later b n (noting sc true n))
-named_later sc b n s = either (is_passed sc n) _ _ (skip_later s) (either (is_dotted n) _ _ (directive_later sc b n s (directive_of n)) (either (is_rep n) _ _ (rep_later sc b s) (argument_later sc (nothing_yet b (head.Instruction false n)) s)))
+named_later sc b n s = either (is_passed sc n) _ _ (skip_later s)
+    (either (is_dotted n) _ _ (directive_later sc b n s (directive_of n))
+    (either (is_rep n) _ _ (rep_later sc b s) (argument_later sc (nothing_yet b (head.Instruction false n)) s)))
 
 sectioned_later : (sc : ScopeView) (b : ℕ) (n m : List ℕ) (s : Terminal) → IsLater (sectioned_step sc b n m s)
 sectioned_later sc b n m terminal.End = refl
@@ -130,14 +134,18 @@ inside_later sc (state.Stray l c) line s inside = tt
 pub data Leads-on (sc : ScopeView) (st : StatementState) (line : ℕ) (s : Terminal) (y : ScopeView × StatementState) : Type 0 where
   later : is_later y.1 ≡ true → Leads-on sc st line s y
   name : (n : List ℕ) → st ≡ state.Start → s ≡ terminal.Name n → y ≡ (sc, state.Named line n) → Leads-on sc st line s y
-  astray : (c : SourceCause) → s ≡ terminal.Percent → step sc st line terminal.Percent ≡ Err c → is_place c ≡ true → y ≡ (fresh, state.Stray (fault_line sc st line) c) → Leads-on sc st line s y
+  astray : (c : SourceCause) → s ≡ terminal.Percent → step sc st line terminal.Percent ≡ Err c → is_place c ≡ true
+      → y ≡ (fresh, state.Stray (fault_line sc st line) c) → Leads-on sc st line s y
 
-start_name : (sc : ScopeView) (line : ℕ) (s : Terminal) (y : ScopeView × StatementState) → step sc state.Start line s ≡ Ok y → Leads-on sc state.Start line s y
-start_name sc line terminal.End y h = Leads-on.later (ap (λ (z : ScopeView × StatementState). is_later z.1) (sym (ok_same (sc, state.Start) y h)))
+start_name : (sc : ScopeView) (line : ℕ) (s : Terminal) (y : ScopeView × StatementState) → step sc state.Start line s ≡ Ok y
+    → Leads-on sc state.Start line s y
+start_name sc line terminal.End y h =
+    Leads-on.later (ap (λ (z : ScopeView × StatementState). is_later z.1) (sym (ok_same (sc, state.Start) y h)))
 start_name sc line (terminal.Name n) y h = Leads-on.name n refl refl (sym (ok_same (sc, state.Named line n) y h))
 start_name sc line terminal.Big y h = by_test sc.skipping h
   where
-    by_test : (t : Bool) → ◌≡◌ {A = Answer} (with_scope sc (unless_skipping t cause.BadNumber)) (Ok y) → Leads-on sc state.Start line terminal.Big y
+    by_test : (t : Bool) → ◌≡◌ {A = Answer} (with_scope sc (unless_skipping t cause.BadNumber)) (Ok y)
+        → Leads-on sc state.Start line terminal.Big y
     by_test true h = Leads-on.later (ap (λ (z : ScopeView × StatementState). is_later z.1) (sym (ok_same (sc, state.Skip) y h)))
     by_test false h = absurd cc
 start_name sc line s y h = by_test sc.skipping h
@@ -155,20 +163,26 @@ is_start (state.Flags b n m) = inr (λ e. absurd cc)
 is_start (state.Arguments o) = inr (λ e. absurd cc)
 is_start (state.Stray l c) = inr (λ e. absurd cc)
 
-step_leads : (sc : ScopeView) (st : StatementState) (line : ℕ) (s : Terminal) (y : ScopeView × StatementState) → step sc st line s ≡ Ok y → Leads-on sc st line s y
+step_leads : (sc : ScopeView) (st : StatementState) (line : ℕ) (s : Terminal) (y : ScopeView × StatementState) → step sc st line s ≡ Ok y
+    → Leads-on sc st line s y
 step_leads sc st line s y h = elim (is_start st) [
-  | inl e ↦ subst (λ (x : StatementState). Leads-on sc x line s y) (sym e) (start_name sc line s y (subst (λ (x : StatementState). step sc x line s ≡ Ok y) e h))
+  | inl e ↦ subst (λ (x : StatementState). Leads-on sc x line s y) (sym e)
+      (start_name sc line s y (subst (λ (x : StatementState). step sc x line s ≡ Ok y) e h))
   | inr inside ↦ let g : IsLater (Ok y) = subst IsLater h (inside_later sc st line s inside) in Leads-on.later g
 ]
 
-pub leads_on : (sc : ScopeView) (st : StatementState) (line : ℕ) (s : Terminal) (y : ScopeView × StatementState) → next_step sc st line s ≡ Ok y → Leads-on sc st line s y
+pub leads_on : (sc : ScopeView) (st : StatementState) (line : ℕ) (s : Terminal) (y : ScopeView × StatementState)
+    → next_step sc st line s ≡ Ok y → Leads-on sc st line s y
 leads_on sc st line terminal.Percent y h = by_result (step sc st line terminal.Percent) refl h
   where
-    by_place : (c : SourceCause) (t : Bool) → is_place c ≡ t → step sc st line terminal.Percent ≡ Err c → ◌≡◌ {A = Answer} (cond t (Ok (fresh, state.Stray (fault_line sc st line) c)) (Err c)) (Ok y) → Leads-on sc st line terminal.Percent y
+    by_place : (c : SourceCause) (t : Bool) → is_place c ≡ t → step sc st line terminal.Percent ≡ Err c
+        → ◌≡◌ {A = Answer} (cond t (Ok (fresh, state.Stray (fault_line sc st line) c)) (Err c)) (Ok y)
+        → Leads-on sc st line terminal.Percent y
     by_place c true e f k = Leads-on.astray c refl f e (sym (ok_same _ y k))
     by_place c false e f k = absurd cc
 
-    by_result : (r : Answer) → step sc st line terminal.Percent ≡ r → strayed (fault_line sc st line) r ≡ Ok y → Leads-on sc st line terminal.Percent y
+    by_result : (r : Answer) → step sc st line terminal.Percent ≡ r → strayed (fault_line sc st line) r ≡ Ok y
+        → Leads-on sc st line terminal.Percent y
     by_result (Ok x) e k = step_leads sc st line terminal.Percent y (e ∙ k)
     by_result (Err c) e k = by_place c (is_place c) refl e k
 leads_on sc st line s y h = step_leads sc st line s y h

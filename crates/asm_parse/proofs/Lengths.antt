@@ -8,7 +8,8 @@ use Rattle.asm_lex.specs.declared.fault.SourceFault.TheVariants as fault
 use Rattle.asm_source.specs.declared.tree.SourceItem.{SourceItem}
 use Rattle.asm_statement.specs.Running.{read, Parses}
 
-pub by_length : (P : Result (List SourceItem) SourceFault → Type 0) (text : List ℕ) (r : Result (List SourceItem) SourceFault) → (LIMIT < length text → r ≡ Err (fault.At 1 cause.TooLong)) → (length text ≤ LIMIT → Parses r (read text))
+pub by_length : (P : Result (List SourceItem) SourceFault → Type 0) (text : List ℕ) (r : Result (List SourceItem) SourceFault)
+    → (LIMIT < length text → r ≡ Err (fault.At 1 cause.TooLong)) → (length text ≤ LIMIT → Parses r (read text))
     → (length text ≤ LIMIT → Parses r (read text) → P r) → (LIMIT < length text → P (Err (fault.At 1 cause.TooLong))) → P r
 by_length P text r long exact of_read of_long = by_cases (cases_lt LIMIT (length text))
   where

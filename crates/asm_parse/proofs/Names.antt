@@ -28,13 +28,17 @@ pub noting_seen : (sc sc2 : ScopeView) (d : Bool) (n : List ℕ) → noting sc d
 noting_seen sc sc2 true n h = by_tests (holds sc.defined n) (has_room sc n) refl refl h
   where
     by_tests : (t u : Bool) → holds sc.defined n ≡ t → has_room sc n ≡ u
-        → ◌≡◌ {A = Result ScopeView SourceCause} (cond t (Err cause.DoubledLabel) (cond (not u) (Err cause.TooManySymbols) (Ok (defined_too (noted sc n) n)))) (Ok sc2) → IsSeen sc true n sc2
+        → ◌≡◌ {A = Result ScopeView SourceCause}
+        (cond t (Err cause.DoubledLabel) (cond (not u) (Err cause.TooManySymbols) (Ok (defined_too (noted sc n) n)))) (Ok sc2)
+        → IsSeen sc true n sc2
     by_tests true u e f h = absurd cc
     by_tests false false e f h = absurd cc
     by_tests false true e f h = let g : defined_too (noted sc n) n ≡ sc2 = cc in subst (IsSeen sc true n) g (IsSeen.defined e f)
 noting_seen sc sc2 false n h = by_test (has_room sc n) refl h
   where
-    by_test : (u : Bool) → has_room sc n ≡ u → ◌≡◌ {A = Result ScopeView SourceCause} (cond (not u) (Err cause.TooManySymbols) (Ok (noted sc n))) (Ok sc2) → IsSeen sc false n sc2
+    by_test : (u : Bool) → has_room sc n ≡ u
+        → ◌≡◌ {A = Result ScopeView SourceCause} (cond (not u) (Err cause.TooManySymbols) (Ok (noted sc n))) (Ok sc2)
+        → IsSeen sc false n sc2
     by_test false f h = absurd cc
     by_test true f h = let g : noted sc n ≡ sc2 = cc in subst (IsSeen sc false n) g (IsSeen.used f)
 
@@ -57,64 +61,102 @@ named_in _ = None
 
 -- one terminal more: no name is read, or the first one
 abbrev pub Keeps : Partial → Terminal → Partial → Type 0
-Keeps p s q = ((name_in q ≡ None) × (named_in q ≡ named_in p)) ⊎ ((n : List ℕ) × (name_in q ≡ Some n) × (named_in q ≡ Some n) × (named_in p ≡ None) × (s ≡ terminal.Name n))
+Keeps p s q = ((name_in q ≡ None) × (named_in q ≡ named_in p))
+    ⊎ ((n : List ℕ) × (name_in q ≡ Some n) × (named_in q ≡ Some n) × (named_in p ≡ None) × (s ≡ terminal.Name n))
 
 pub name_step : (sh : Shape) (p : Partial) (s : Terminal) (q : Partial) → next_terminal sh p s ≡ ok q → Keeps p s q
-name_step sh partial.Nothing terminal.Percent q h = subst (Keeps partial.Nothing terminal.Percent) (allowed_ok (is_operand sh) partial.Percent q h).1 (inl (refl, refl))
-name_step sh partial.Nothing terminal.Dollar q h = subst (Keeps partial.Nothing terminal.Dollar) (allowed_ok (is_operand sh) partial.Dollar q h).1 (inl (refl, refl))
-name_step sh partial.Nothing terminal.Open q h = subst (Keeps partial.Nothing terminal.Open) (allowed_ok (is_operand sh) (partial.Open None) q h).1 (inl (refl, refl))
-name_step sh partial.Nothing terminal.Minus q h = subst (Keeps partial.Nothing terminal.Minus) (allowed_ok (takes_minus sh) (partial.Minus place.Memory) q h).1 (inl (refl, refl))
-name_step sh partial.Nothing (terminal.Number n) q h = subst (Keeps partial.Nothing (terminal.Number n)) (counted_ok (takes_numbers sh) (fits sh false n) (partial.Number place.Memory (plain (pos n))) q h).2 (inl (refl, refl))
-name_step sh partial.Nothing (terminal.Name n) q h = subst (Keeps partial.Nothing (terminal.Name n)) (allowed_ok (takes_names sh) (partial.Name place.Memory n) q h).1 (inr (n, refl, refl, refl, refl))
-name_step sh partial.Nothing (terminal.Text t) q h = subst (Keeps partial.Nothing (terminal.Text t)) (allowed_ok (takes_text sh) (partial.Whole (form.Text t)) q h).1 (inl (refl, refl))
+name_step sh partial.Nothing terminal.Percent q h =
+    subst (Keeps partial.Nothing terminal.Percent) (allowed_ok (is_operand sh) partial.Percent q h).1 (inl (refl, refl))
+name_step sh partial.Nothing terminal.Dollar q h =
+    subst (Keeps partial.Nothing terminal.Dollar) (allowed_ok (is_operand sh) partial.Dollar q h).1 (inl (refl, refl))
+name_step sh partial.Nothing terminal.Open q h =
+    subst (Keeps partial.Nothing terminal.Open) (allowed_ok (is_operand sh) (partial.Open None) q h).1 (inl (refl, refl))
+name_step sh partial.Nothing terminal.Minus q h =
+    subst (Keeps partial.Nothing terminal.Minus) (allowed_ok (takes_minus sh) (partial.Minus place.Memory) q h).1 (inl (refl, refl))
+name_step sh partial.Nothing (terminal.Number n) q h = subst (Keeps partial.Nothing (terminal.Number n))
+    (counted_ok (takes_numbers sh) (fits sh false n) (partial.Number place.Memory (plain (pos n))) q h).2 (inl (refl, refl))
+name_step sh partial.Nothing (terminal.Name n) q h = subst (Keeps partial.Nothing (terminal.Name n))
+    (allowed_ok (takes_names sh) (partial.Name place.Memory n) q h).1 (inr (n, refl, refl, refl, refl))
+name_step sh partial.Nothing (terminal.Text t) q h =
+    subst (Keeps partial.Nothing (terminal.Text t)) (allowed_ok (takes_text sh) (partial.Whole (form.Text t)) q h).1 (inl (refl, refl))
 name_step sh partial.Nothing _ q h = absurd cc
-name_step sh partial.Absent terminal.Percent q h = subst (Keeps partial.Absent terminal.Percent) (allowed_ok (is_operand sh) partial.Percent q h).1 (inl (refl, refl))
-name_step sh partial.Absent terminal.Dollar q h = subst (Keeps partial.Absent terminal.Dollar) (allowed_ok (is_operand sh) partial.Dollar q h).1 (inl (refl, refl))
-name_step sh partial.Absent terminal.Open q h = subst (Keeps partial.Absent terminal.Open) (allowed_ok (is_operand sh) (partial.Open None) q h).1 (inl (refl, refl))
-name_step sh partial.Absent terminal.Minus q h = subst (Keeps partial.Absent terminal.Minus) (allowed_ok (takes_minus sh) (partial.Minus place.Memory) q h).1 (inl (refl, refl))
-name_step sh partial.Absent (terminal.Number n) q h = subst (Keeps partial.Absent (terminal.Number n)) (counted_ok (takes_numbers sh) (fits sh false n) (partial.Number place.Memory (plain (pos n))) q h).2 (inl (refl, refl))
-name_step sh partial.Absent (terminal.Name n) q h = subst (Keeps partial.Absent (terminal.Name n)) (allowed_ok (takes_names sh) (partial.Name place.Memory n) q h).1 (inr (n, refl, refl, refl, refl))
-name_step sh partial.Absent (terminal.Text t) q h = subst (Keeps partial.Absent (terminal.Text t)) (allowed_ok (takes_text sh) (partial.Whole (form.Text t)) q h).1 (inl (refl, refl))
+name_step sh partial.Absent terminal.Percent q h =
+    subst (Keeps partial.Absent terminal.Percent) (allowed_ok (is_operand sh) partial.Percent q h).1 (inl (refl, refl))
+name_step sh partial.Absent terminal.Dollar q h =
+    subst (Keeps partial.Absent terminal.Dollar) (allowed_ok (is_operand sh) partial.Dollar q h).1 (inl (refl, refl))
+name_step sh partial.Absent terminal.Open q h =
+    subst (Keeps partial.Absent terminal.Open) (allowed_ok (is_operand sh) (partial.Open None) q h).1 (inl (refl, refl))
+name_step sh partial.Absent terminal.Minus q h =
+    subst (Keeps partial.Absent terminal.Minus) (allowed_ok (takes_minus sh) (partial.Minus place.Memory) q h).1 (inl (refl, refl))
+name_step sh partial.Absent (terminal.Number n) q h = subst (Keeps partial.Absent (terminal.Number n))
+    (counted_ok (takes_numbers sh) (fits sh false n) (partial.Number place.Memory (plain (pos n))) q h).2 (inl (refl, refl))
+name_step sh partial.Absent (terminal.Name n) q h = subst (Keeps partial.Absent (terminal.Name n))
+    (allowed_ok (takes_names sh) (partial.Name place.Memory n) q h).1 (inr (n, refl, refl, refl, refl))
+name_step sh partial.Absent (terminal.Text t) q h =
+    subst (Keeps partial.Absent (terminal.Text t)) (allowed_ok (takes_text sh) (partial.Whole (form.Text t)) q h).1 (inl (refl, refl))
 name_step sh partial.Absent _ q h = absurd cc
-name_step sh partial.Percent (terminal.Name r) q h = subst (Keeps partial.Percent (terminal.Name r)) (registered_ok (is_register r) (partial.Whole (form.Register r)) q h).1 (inl (refl, refl))
+name_step sh partial.Percent (terminal.Name r) q h = subst (Keeps partial.Percent (terminal.Name r))
+    (registered_ok (is_register r) (partial.Whole (form.Register r)) q h).1 (inl (refl, refl))
 name_step sh partial.Percent _ q h = absurd cc
-name_step sh partial.Dollar terminal.Minus q h = subst (Keeps partial.Dollar terminal.Minus) (ok_is (partial.Minus place.Immediate) q h) (inl (refl, refl))
-name_step sh partial.Dollar (terminal.Number n) q h = subst (Keeps partial.Dollar (terminal.Number n)) (ok_is (partial.Number place.Immediate (plain (pos n))) q h) (inl (refl, refl))
-name_step sh partial.Dollar (terminal.Name n) q h = subst (Keeps partial.Dollar (terminal.Name n)) (ok_is (partial.Name place.Immediate n) q h) (inr (n, refl, refl, refl, refl))
+name_step sh partial.Dollar terminal.Minus q h =
+    subst (Keeps partial.Dollar terminal.Minus) (ok_is (partial.Minus place.Immediate) q h) (inl (refl, refl))
+name_step sh partial.Dollar (terminal.Number n) q h =
+    subst (Keeps partial.Dollar (terminal.Number n)) (ok_is (partial.Number place.Immediate (plain (pos n))) q h) (inl (refl, refl))
+name_step sh partial.Dollar (terminal.Name n) q h =
+    subst (Keeps partial.Dollar (terminal.Name n)) (ok_is (partial.Name place.Immediate n) q h) (inr (n, refl, refl, refl, refl))
 name_step sh partial.Dollar _ q h = absurd cc
-name_step sh (partial.Minus a) (terminal.Number n) q h = subst (Keeps (partial.Minus a) (terminal.Number n)) (lowered_ok n (fits sh true n) (partial.Number a (plain (signed true n))) q h).2 (inl (refl, refl))
+name_step sh (partial.Minus a) (terminal.Number n) q h = subst (Keeps (partial.Minus a) (terminal.Number n))
+    (lowered_ok n (fits sh true n) (partial.Number a (plain (signed true n))) q h).2 (inl (refl, refl))
 name_step sh (partial.Minus a) _ q h = absurd cc
-name_step sh (partial.Name a n) terminal.Plus q h = subst (Keeps (partial.Name a n) terminal.Plus) (allowed_ok (takes_sums sh) (partial.Sign a n false) q h).1 (inl (refl, refl))
-name_step sh (partial.Name a n) terminal.Minus q h = subst (Keeps (partial.Name a n) terminal.Minus) (allowed_ok (takes_sums sh) (partial.Sign a n true) q h).1 (inl (refl, refl))
-name_step sh (partial.Name place.Memory n) terminal.Open q h = subst (Keeps (partial.Name place.Memory n) terminal.Open) (allowed_ok (is_operand sh) (partial.Open (Some (named n (pos 0)))) q h).1 (inl (refl, refl))
+name_step sh (partial.Name a n) terminal.Plus q h =
+    subst (Keeps (partial.Name a n) terminal.Plus) (allowed_ok (takes_sums sh) (partial.Sign a n false) q h).1 (inl (refl, refl))
+name_step sh (partial.Name a n) terminal.Minus q h =
+    subst (Keeps (partial.Name a n) terminal.Minus) (allowed_ok (takes_sums sh) (partial.Sign a n true) q h).1 (inl (refl, refl))
+name_step sh (partial.Name place.Memory n) terminal.Open q h = subst (Keeps (partial.Name place.Memory n) terminal.Open)
+    (allowed_ok (is_operand sh) (partial.Open (Some (named n (pos 0)))) q h).1 (inl (refl, refl))
 name_step sh (partial.Name place.Immediate n) terminal.Open q h = absurd cc
 name_step sh (partial.Name a n) _ q h = absurd cc
-name_step sh (partial.Sign a n neg) terminal.Minus q h = subst (Keeps (partial.Sign a n neg) terminal.Minus) (ok_is (partial.SignMinus a n neg) q h) (inl (refl, refl))
-name_step sh (partial.Sign a n neg) (terminal.Number k) q h = subst (Keeps (partial.Sign a n neg) (terminal.Number k)) (ok_is (partial.Number a (named n (signed neg k))) q h) (inl (refl, refl))
+name_step sh (partial.Sign a n neg) terminal.Minus q h =
+    subst (Keeps (partial.Sign a n neg) terminal.Minus) (ok_is (partial.SignMinus a n neg) q h) (inl (refl, refl))
+name_step sh (partial.Sign a n neg) (terminal.Number k) q h =
+    subst (Keeps (partial.Sign a n neg) (terminal.Number k)) (ok_is (partial.Number a (named n (signed neg k))) q h) (inl (refl, refl))
 name_step sh (partial.Sign a n neg) _ q h = absurd cc
-name_step sh (partial.SignMinus a n neg) (terminal.Number k) q h = subst (Keeps (partial.SignMinus a n neg) (terminal.Number k)) (lowered_ok k true (partial.Number a (named n (signed (not neg) k))) q h).2 (inl (refl, refl))
+name_step sh (partial.SignMinus a n neg) (terminal.Number k) q h = subst (Keeps (partial.SignMinus a n neg) (terminal.Number k))
+    (lowered_ok k true (partial.Number a (named n (signed (not neg) k))) q h).2 (inl (refl, refl))
 name_step sh (partial.SignMinus a n neg) _ q h = absurd cc
-name_step sh (partial.Number place.Memory v) terminal.Open q h = subst (Keeps (partial.Number place.Memory v) terminal.Open) (allowed_ok (is_operand sh) (partial.Open (Some v)) q h).1 (inl (refl, refl))
+name_step sh (partial.Number place.Memory v) terminal.Open q h = subst (Keeps (partial.Number place.Memory v) terminal.Open)
+    (allowed_ok (is_operand sh) (partial.Open (Some v)) q h).1 (inl (refl, refl))
 name_step sh (partial.Number place.Immediate v) terminal.Open q h = absurd cc
 name_step sh (partial.Number a v) _ q h = absurd cc
-name_step sh (partial.Open v) terminal.Percent q h = subst (Keeps (partial.Open v) terminal.Percent) (ok_is (partial.BasePercent v) q h) (inl (refl, refl))
-name_step sh (partial.Open v) terminal.Comma q h = subst (Keeps (partial.Open v) terminal.Comma) (ok_is (partial.IndexComma v None) q h) (inl (refl, refl))
+name_step sh (partial.Open v) terminal.Percent q h =
+    subst (Keeps (partial.Open v) terminal.Percent) (ok_is (partial.BasePercent v) q h) (inl (refl, refl))
+name_step sh (partial.Open v) terminal.Comma q h =
+    subst (Keeps (partial.Open v) terminal.Comma) (ok_is (partial.IndexComma v None) q h) (inl (refl, refl))
 name_step sh (partial.Open v) _ q h = absurd cc
-name_step sh (partial.BasePercent v) (terminal.Name r) q h = subst (Keeps (partial.BasePercent v) (terminal.Name r)) (registered_ok (is_register r) (partial.Base v r) q h).1 (inl (refl, refl))
+name_step sh (partial.BasePercent v) (terminal.Name r) q h =
+    subst (Keeps (partial.BasePercent v) (terminal.Name r)) (registered_ok (is_register r) (partial.Base v r) q h).1 (inl (refl, refl))
 name_step sh (partial.BasePercent v) _ q h = absurd cc
-name_step sh (partial.Base v b) terminal.Close q h = subst (Keeps (partial.Base v b) terminal.Close) (ok_is (partial.Whole (form.Memory v (Some b) None 1)) q h) (inl (refl, refl))
-name_step sh (partial.Base v b) terminal.Comma q h = subst (Keeps (partial.Base v b) terminal.Comma) (ok_is (partial.IndexComma v (Some b)) q h) (inl (refl, refl))
+name_step sh (partial.Base v b) terminal.Close q h =
+    subst (Keeps (partial.Base v b) terminal.Close) (ok_is (partial.Whole (form.Memory v (Some b) None 1)) q h) (inl (refl, refl))
+name_step sh (partial.Base v b) terminal.Comma q h =
+    subst (Keeps (partial.Base v b) terminal.Comma) (ok_is (partial.IndexComma v (Some b)) q h) (inl (refl, refl))
 name_step sh (partial.Base v b) _ q h = absurd cc
-name_step sh (partial.IndexComma v b) terminal.Percent q h = subst (Keeps (partial.IndexComma v b) terminal.Percent) (ok_is (partial.IndexPercent v b) q h) (inl (refl, refl))
+name_step sh (partial.IndexComma v b) terminal.Percent q h =
+    subst (Keeps (partial.IndexComma v b) terminal.Percent) (ok_is (partial.IndexPercent v b) q h) (inl (refl, refl))
 name_step sh (partial.IndexComma v b) _ q h = absurd cc
-name_step sh (partial.IndexPercent v b) (terminal.Name r) q h = subst (Keeps (partial.IndexPercent v b) (terminal.Name r)) (registered_ok (is_register r) (partial.Index v b r) q h).1 (inl (refl, refl))
+name_step sh (partial.IndexPercent v b) (terminal.Name r) q h = subst (Keeps (partial.IndexPercent v b) (terminal.Name r))
+    (registered_ok (is_register r) (partial.Index v b r) q h).1 (inl (refl, refl))
 name_step sh (partial.IndexPercent v b) _ q h = absurd cc
-name_step sh (partial.Index v b i) terminal.Close q h = subst (Keeps (partial.Index v b i) terminal.Close) (ok_is (partial.Whole (form.Memory v b (Some i) 1)) q h) (inl (refl, refl))
-name_step sh (partial.Index v b i) terminal.Comma q h = subst (Keeps (partial.Index v b i) terminal.Comma) (ok_is (partial.Scale v b i) q h) (inl (refl, refl))
+name_step sh (partial.Index v b i) terminal.Close q h =
+    subst (Keeps (partial.Index v b i) terminal.Close) (ok_is (partial.Whole (form.Memory v b (Some i) 1)) q h) (inl (refl, refl))
+name_step sh (partial.Index v b i) terminal.Comma q h =
+    subst (Keeps (partial.Index v b i) terminal.Comma) (ok_is (partial.Scale v b i) q h) (inl (refl, refl))
 name_step sh (partial.Index v b i) _ q h = absurd cc
-name_step sh (partial.Scale v b i) (terminal.Number n) q h = subst (Keeps (partial.Scale v b i) (terminal.Number n)) (scale_ok n (partial.Scaled v b i n) q h).1 (inl (refl, refl))
+name_step sh (partial.Scale v b i) (terminal.Number n) q h =
+    subst (Keeps (partial.Scale v b i) (terminal.Number n)) (scale_ok n (partial.Scaled v b i n) q h).1 (inl (refl, refl))
 name_step sh (partial.Scale v b i) _ q h = absurd cc
-name_step sh (partial.Scaled v b i n) terminal.Close q h = subst (Keeps (partial.Scaled v b i n) terminal.Close) (ok_is (partial.Whole (form.Memory v b (Some i) n)) q h) (inl (refl, refl))
+name_step sh (partial.Scaled v b i n) terminal.Close q h =
+    subst (Keeps (partial.Scaled v b i n) terminal.Close) (ok_is (partial.Whole (form.Memory v b (Some i) n)) q h) (inl (refl, refl))
 name_step sh (partial.Scaled v b i n) _ q h = absurd cc
 name_step sh (partial.Whole f) _ q h = absurd cc
 
@@ -122,11 +164,13 @@ pub none_some : {A : Type 0} {a : A} (o : Option A) → o ≡ None → o ≡ Som
 none_some o e f = absurd cc
 
 -- a name stays
-pub name_stays : (sh : Shape) (ss : List Terminal) (p q : Partial) (n : List ℕ) → operand_run sh p ss ≡ ok q → named_in p ≡ Some n → named_in q ≡ Some n
+pub name_stays : (sh : Shape) (ss : List Terminal) (p q : Partial) (n : List ℕ) → operand_run sh p ss ≡ ok q → named_in p ≡ Some n
+    → named_in q ≡ Some n
 name_stays sh [] p q n h e = let g : p ≡ q = cc in subst (λ (x : Partial). named_in x ≡ Some n) g e
 name_stays sh (s ∷ ss) p q n h e = by_step (next_terminal sh p s) refl h (λ x f g. name_stays sh ss x q n f g)
   where
-    by_step : (r : Result Partial SourceCause) → next_terminal sh p s ≡ r → ◌≡◌ {A = Result Partial SourceCause} (elim r [ Ok x ↦ operand_run sh x ss | Err c ↦ Err c ]) (Ok q)
+    by_step : (r : Result Partial SourceCause) → next_terminal sh p s ≡ r
+        → ◌≡◌ {A = Result Partial SourceCause} (elim r [ Ok x ↦ operand_run sh x ss | Err c ↦ Err c ]) (Ok q)
         → ((x : Partial) → operand_run sh x ss ≡ ok q → named_in x ≡ Some n → named_in q ≡ Some n) → named_in q ≡ Some n
     by_step (Ok x) f h ih = elim (name_step sh p s x f) [
       | inl k ↦ ih x h (k.1 ∙ e)
@@ -249,7 +293,8 @@ terminal_some sh (partial.Name a n) _ = tt
 terminal_some sh (partial.Sign a n neg) terminal.Minus = refl
 terminal_some sh (partial.Sign a n neg) (terminal.Number k) = refl
 terminal_some sh (partial.Sign a n neg) _ = tt
-terminal_some sh (partial.SignMinus a n neg) (terminal.Number k) = lowered_some k true (partial.Number a (named n (signed (not neg) k))) refl
+terminal_some sh (partial.SignMinus a n neg) (terminal.Number k) =
+    lowered_some k true (partial.Number a (named n (signed (not neg) k))) refl
 terminal_some sh (partial.SignMinus a n neg) _ = tt
 terminal_some sh (partial.Number place.Memory v) terminal.Open = allowed_some (is_operand sh) (partial.Open (Some v)) refl
 terminal_some sh (partial.Number place.Immediate v) terminal.Open = tt
@@ -269,7 +314,8 @@ terminal_some sh (partial.IndexPercent v b) _ = tt
 terminal_some sh (partial.Index v b i) terminal.Close = refl
 terminal_some sh (partial.Index v b i) terminal.Comma = refl
 terminal_some sh (partial.Index v b i) _ = tt
-terminal_some sh (partial.Scale v b i) (terminal.Number n) = some_either (is_scale n) (Ok (partial.Scaled v b i n)) (Err cause.BadScale) refl tt
+terminal_some sh (partial.Scale v b i) (terminal.Number n) =
+    some_either (is_scale n) (Ok (partial.Scaled v b i n)) (Err cause.BadScale) refl tt
 terminal_some sh (partial.Scale v b i) _ = tt
 terminal_some sh (partial.Scaled v b i n) terminal.Close = refl
 terminal_some sh (partial.Scaled v b i n) _ = tt

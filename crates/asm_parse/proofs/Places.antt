@@ -49,7 +49,8 @@ use Rattle.asm_parse.proofs.Quiet.{Answer}
 
 -- ---- after a name
 
-scope_fails : (sc : ScopeView) (r : Result StatementState SourceCause) (c : SourceCause) → ◌≡◌ {A = Answer} (with_scope sc r) (Err c) → r ≡ Err c
+scope_fails : (sc : ScopeView) (r : Result StatementState SourceCause) (c : SourceCause)
+    → ◌≡◌ {A = Answer} (with_scope sc r) (Err c) → r ≡ Err c
 scope_fails sc (Ok st) c h = absurd cc
 scope_fails sc (Err d) c h = ap (λ (x : SourceCause). Err x) (same_fault d c h)
 
@@ -60,14 +61,16 @@ label_fails : (line : ℕ) (n : List ℕ) (r : Result ScopeView SourceCause) (c 
 label_fails line n (Ok sc) c h = absurd cc
 label_fails line n (Err d) c h = ap (λ (x : SourceCause). Err x) (same_fault d c h)
 
-colon_fails : (sc : ScopeView) (b : ℕ) (n : List ℕ) (c : SourceCause) (t : Bool) → ◌≡◌ {A = Answer} (cond t (Ok (sc, state.Start)) (label sc b n)) (Err c) → name_cause sc true n ≡ c
+colon_fails : (sc : ScopeView) (b : ℕ) (n : List ℕ) (c : SourceCause) (t : Bool)
+    → ◌≡◌ {A = Answer} (cond t (Ok (sc, state.Start)) (label sc b n)) (Err c) → name_cause sc true n ≡ c
 colon_fails sc b n c true h = absurd cc
 colon_fails sc b n c false h = noting_cause sc true n c (label_fails b n (noting sc true n) c h)
 
 section_fails : (b : ℕ) (n : List ℕ) (s : Terminal) (c : SourceCause) → section_name b n s ≡ Err c → misplaced s ≡ c
 section_fails b n (terminal.Name m) c h = by_test (is_section m) h
   where
-    by_test : (t : Bool) → ◌≡◌ {A = Result StatementState SourceCause} (cond t (Ok (state.Sectioned b n m 0)) (Err cause.BadArgument)) (Err c) → cause.BadArgument ≡ c
+    by_test : (t : Bool) → ◌≡◌ {A = Result StatementState SourceCause} (cond t (Ok (state.Sectioned b n m 0)) (Err cause.BadArgument))
+        (Err c) → cause.BadArgument ≡ c
     by_test true h = absurd cc
     by_test false h = same_cause _ c h
 section_fails b n _ c h = same_cause _ c h
@@ -76,40 +79,50 @@ rep_fails : (sc : ScopeView) (b : ℕ) (s : Terminal) (c : SourceCause) → rep_
 rep_fails sc b (terminal.Name m) c h = absurd cc
 rep_fails sc b _ c h = same_fault _ c h
 
-list_fails : (sc : ScopeView) (b : ℕ) (n : List ℕ) (k : Directive) (s : Terminal) (c : SourceCause) → is_passed sc n ≡ false → is_dotted n ≡ true → directive_of n ≡ Some k → has_list k ≡ true → argument_step sc (nothing_yet b (head.Directive k n)) s ≡ Err c
+list_fails : (sc : ScopeView) (b : ℕ) (n : List ℕ) (k : Directive) (s : Terminal) (c : SourceCause) → is_passed sc n ≡ false
+    → is_dotted n ≡ true → directive_of n ≡ Some k → has_list k ≡ true → argument_step sc (nothing_yet b (head.Directive k n)) s ≡ Err c
     → value_cause (head.Directive k n) [] sc [] s ≡ c
 unfolding fresh_arguments
 list_fails sc b n k s c passed dotted dir list h =
     argument_refused sc b (nothing_yet b (head.Directive k n)) (terminal.Name n ∷ []) sc
-    (fresh_arguments sc b (terminal.Name n ∷ []) (head.Directive k n) (Leads.directive passed dotted dir list) (λ ss args sc2 has count. Statement.directive passed dotted dir list has count)) s c h
+    (fresh_arguments sc b (terminal.Name n ∷ []) (head.Directive k n) (Leads.directive passed dotted dir list)
+    (λ ss args sc2 has count. Statement.directive passed dotted dir list has count)) s c h
 
-directive_fails : (sc : ScopeView) (b : ℕ) (n : List ℕ) (s : Terminal) (c : SourceCause) → is_passed sc n ≡ false → is_dotted n ≡ true → (d : Option Directive) → directive_of n ≡ d → of_directive d sc b n s ≡ Err c → directive_cause d sc n s ≡ c
+directive_fails : (sc : ScopeView) (b : ℕ) (n : List ℕ) (s : Terminal) (c : SourceCause) → is_passed sc n ≡ false → is_dotted n ≡ true
+    → (d : Option Directive) → directive_of n ≡ d → of_directive d sc b n s ≡ Err c → directive_cause d sc n s ≡ c
 directive_fails sc b n s c passed dotted None e h = same_fault _ c h
 directive_fails sc b n s c passed dotted (Some kind.Skipped) e h = absurd cc
 directive_fails sc b n s c passed dotted (Some kind.Section) e h = section_fails b n s c (scope_fails sc (section_name b n s) c h)
 directive_fails sc b n s c passed dotted (Some k) e h = list_fails sc b n k s c passed dotted e refl h
 
-instruction_fails : (sc : ScopeView) (b : ℕ) (n : List ℕ) (s : Terminal) (c : SourceCause) → is_passed sc n ≡ false → is_dotted n ≡ false → is_rep n ≡ false → argument_step sc (nothing_yet b (head.Instruction false n)) s ≡ Err c → operand_cause [] s ≡ c
+instruction_fails : (sc : ScopeView) (b : ℕ) (n : List ℕ) (s : Terminal) (c : SourceCause) → is_passed sc n ≡ false → is_dotted n ≡ false
+    → is_rep n ≡ false → argument_step sc (nothing_yet b (head.Instruction false n)) s ≡ Err c → operand_cause [] s ≡ c
 unfolding fresh_arguments
 instruction_fails sc b n s c passed dotted rep h =
     argument_refused sc b (nothing_yet b (head.Instruction false n)) (terminal.Name n ∷ []) sc
-    (fresh_arguments sc b (terminal.Name n ∷ []) (head.Instruction false n) (Leads.instruction passed dotted rep) (λ ss args sc2 has count. Statement.instruction passed dotted rep has)) s c h
+    (fresh_arguments sc b (terminal.Name n ∷ []) (head.Instruction false n) (Leads.instruction passed dotted rep)
+    (λ ss args sc2 has count. Statement.instruction passed dotted rep has)) s c h
 
-other_fails : (sc : ScopeView) (b : ℕ) (n : List ℕ) (s : Terminal) (c : SourceCause) (t u v : Bool) → is_passed sc n ≡ t → is_dotted n ≡ u → is_rep n ≡ v
-    → ◌≡◌ {A = Answer} (cond t (Ok (sc, skip s)) (cond u (directive_step sc b n s) (cond v (rep_step sc b s) (argument_step sc (nothing_yet b (head.Instruction false n)) s)))) (Err c)
+other_fails : (sc : ScopeView) (b : ℕ) (n : List ℕ) (s : Terminal) (c : SourceCause) (t u v : Bool) → is_passed sc n ≡ t
+    → is_dotted n ≡ u → is_rep n ≡ v
+    → ◌≡◌ {A = Answer} (cond t (Ok (sc, skip s))
+    (cond u (directive_step sc b n s) (cond v (rep_step sc b s) (argument_step sc (nothing_yet b (head.Instruction false n)) s)))) (Err c)
     → cond u (directive_cause (directive_of n) sc n s) (cond v (other_cause s) (operand_cause [] s)) ≡ c
 other_fails sc b n s c true u v e f g h = absurd cc
 other_fails sc b n s c false true v e f g h = directive_fails sc b n s c e f (directive_of n) refl h
 other_fails sc b n s c false false true e f g h = rep_fails sc b s c h
 other_fails sc b n s c false false false e f g h = instruction_fails sc b n s c e f g h
 
-pub named_fails : (sc : ScopeView) (b : ℕ) (n : List ℕ) (s : Terminal) (c : SourceCause) → named_step sc b n s ≡ Err c → named_cause sc n s ≡ c
+pub named_fails : (sc : ScopeView) (b : ℕ) (n : List ℕ) (s : Terminal) (c : SourceCause) → named_step sc b n s ≡ Err c
+    → named_cause sc n s ≡ c
 named_fails sc b n terminal.Colon c h = colon_fails sc b n c sc.skipping h
 named_fails sc b n s c h = other_fails sc b n s c (is_passed sc n) (is_dotted n) (is_rep n) refl refl refl h
 
 -- ---- a `%`
 
-pub behind_is : (sc0 : ScopeView) (p : StatementPlace) (sc : ScopeView) (st : StatementState) (line : ℕ) (s : Terminal) (rest : List Terminal) (c : SourceCause) → ((c : SourceCause) → step sc st line s ≡ Err c → cause_at sc0 p s ≡ c) → next_step sc st line s ≡ Err c → behind_cause sc0 p s rest ≡ c
+pub behind_is : (sc0 : ScopeView) (p : StatementPlace) (sc : ScopeView) (st : StatementState) (line : ℕ) (s : Terminal)
+    (rest : List Terminal) (c : SourceCause) → ((c : SourceCause) → step sc st line s ≡ Err c → cause_at sc0 p s ≡ c)
+    → next_step sc st line s ≡ Err c → behind_cause sc0 p s rest ≡ c
 behind_is sc0 p sc st line terminal.Percent rest c f h = by_result (step sc st line terminal.Percent) refl h
   where
     not_place : (d : SourceCause) → is_place d ≡ false → percent_cause d rest ≡ d
@@ -117,11 +130,13 @@ behind_is sc0 p sc st line terminal.Percent rest c f h = by_result (step sc st l
     not_place cause.BadArgument e = absurd cc
     not_place _ e = refl
 
-    by_place : (d : SourceCause) (t : Bool) → is_place d ≡ t → ◌≡◌ {A = Answer} (cond t (Ok (fresh, state.Stray (fault_line sc st line) d)) (Err d)) (Err c) → percent_cause d rest ≡ c
+    by_place : (d : SourceCause) (t : Bool) → is_place d ≡ t
+        → ◌≡◌ {A = Answer} (cond t (Ok (fresh, state.Stray (fault_line sc st line) d)) (Err d)) (Err c) → percent_cause d rest ≡ c
     by_place d true e k = absurd cc
     by_place d false e k = not_place d e ∙ same_fault d c k
 
-    by_result : (r : Answer) → step sc st line terminal.Percent ≡ r → strayed (fault_line sc st line) r ≡ Err c → behind_cause sc0 p terminal.Percent rest ≡ c
+    by_result : (r : Answer) → step sc st line terminal.Percent ≡ r → strayed (fault_line sc st line) r ≡ Err c
+        → behind_cause sc0 p terminal.Percent rest ≡ c
     by_result (Ok x) e k = absurd cc
     by_result (Err d) e k = ap (λ (x : SourceCause). percent_cause x rest) (f d e) ∙ by_place d (is_place d) refl k
 behind_is sc0 p sc st line s rest c f h = f c h
@@ -145,8 +160,10 @@ Extra sc0 st ps = Unit {0}
 
 -- In this state what is refused has the cause of the place.
 pub record Suits (sc0 : ScopeView) (place : StatementPlace) (sc : ScopeView) (st : StatementState) : Type 0 where
-  pub cause : (line : ℕ) (s : Terminal) (rest : List Terminal) (c : SourceCause) → next_step sc st line s ≡ Err c → refused_cause sc0 place s rest ≡ c
-  pub percent : (line : ℕ) (rest : List Terminal) (c : SourceCause) → step sc st line terminal.Percent ≡ Err c → refused_cause sc0 place terminal.Percent rest ≡ percent_cause c rest
+  pub cause : (line : ℕ) (s : Terminal) (rest : List Terminal) (c : SourceCause) → next_step sc st line s ≡ Err c
+      → refused_cause sc0 place s rest ≡ c
+  pub percent : (line : ℕ) (rest : List Terminal) (c : SourceCause) → step sc st line terminal.Percent ≡ Err c
+      → refused_cause sc0 place terminal.Percent rest ≡ percent_cause c rest
   pub first : st ≡ state.Start → (sc0 ≡ sc) × (place ≡ StatementPlace.first)
   pub byte : (c : SourceCause) → unwrap_or (pending sc st) c ≡ byte_cause sc0 place c
 
@@ -169,7 +186,8 @@ start_fails sc line _ c h = by_test sc.skipping h
     by_test true h = absurd cc
     by_test false h = same_fault _ c h
 
-first_cause : (sc : ScopeView) (line : ℕ) (s : Terminal) (rest : List Terminal) (c : SourceCause) → next_step sc state.Start line s ≡ Err c → refused_cause sc StatementPlace.first s rest ≡ c
+first_cause : (sc : ScopeView) (line : ℕ) (s : Terminal) (rest : List Terminal) (c : SourceCause) → next_step sc state.Start line s ≡ Err c
+    → refused_cause sc StatementPlace.first s rest ≡ c
 first_cause sc line (terminal.Name n) rest c h = absurd cc
 first_cause sc line s rest c h = behind_is sc StatementPlace.first sc state.Start line s rest c (λ d k. start_fails sc line s d k) h
 
@@ -185,7 +203,8 @@ at_start : (sc : ScopeView) → Standing sc state.Start [] sc
 at_start sc = record { place = StatementPlace.first; stands = LeadsTo.first; suits = start_suits sc }
 
 -- of a name that may still begin something, only that it is an unknown directive is known
-named_byte : (sc : ScopeView) (b : ℕ) (n : List ℕ) (c : SourceCause) → doom sc (state.Named b n) ≡ None → unwrap_or (pending sc (state.Named b n)) c ≡ byte_cause sc (StatementPlace.named n) c
+named_byte : (sc : ScopeView) (b : ℕ) (n : List ℕ) (c : SourceCause) → doom sc (state.Named b n) ≡ None
+    → unwrap_or (pending sc (state.Named b n)) c ≡ byte_cause sc (StatementPlace.named n) c
 named_byte sc b n c alive = by_test (is_unknown sc n) refl
   where
     by_test : (t : Bool) → is_unknown sc n ≡ t → unwrap_or (pending sc (state.Named b n)) c ≡ byte_cause sc (StatementPlace.named n) c
@@ -194,7 +213,8 @@ named_byte sc b n c alive = by_test (is_unknown sc n) refl
         let lacks : lacks_names sc n ≡ false = (or_parts (is_unknown sc n && is_taken sc n) (lacks_names sc n) (then_none _ b alive)).1 in
         rw (e, lacks) refl
 
-pub named_suits : (sc : ScopeView) (b : ℕ) (n : List ℕ) → doom sc (state.Named b n) ≡ None → Suits sc (StatementPlace.named n) sc (state.Named b n)
+pub named_suits : (sc : ScopeView) (b : ℕ) (n : List ℕ) → doom sc (state.Named b n) ≡ None
+    → Suits sc (StatementPlace.named n) sc (state.Named b n)
 named_suits sc b n alive = record {
   cause = λ line s rest c h. behind_is sc (StatementPlace.named n) sc (state.Named b n) line s rest c (λ d k. named_fails sc b n s d k) h;
   percent = λ line rest c h. ap (λ (x : SourceCause). percent_cause x rest) (named_fails sc b n terminal.Percent c h);
@@ -202,15 +222,21 @@ named_suits sc b n alive = record {
   byte = λ c. named_byte sc b n c alive;
 }
 
-at_named : (sc : ScopeView) (b : ℕ) (n : List ℕ) (ps : List Word) → terminals ps ≡ terminal.Name n ∷ [] → doom sc (state.Named b n) ≡ None → Standing sc (state.Named b n) ps sc
-at_named sc b n ps e alive = record { place = StatementPlace.named n; stands = subst (λ (x : List Terminal). LeadsTo sc x (StatementPlace.named n)) (sym e) LeadsTo.named; suits = named_suits sc b n alive }
+at_named : (sc : ScopeView) (b : ℕ) (n : List ℕ) (ps : List Word) → terminals ps ≡ terminal.Name n ∷ [] → doom sc (state.Named b n) ≡ None
+    → Standing sc (state.Named b n) ps sc
+at_named sc b n ps e alive = record {
+  place = StatementPlace.named n;
+  stands = subst (λ (x : List Terminal). LeadsTo sc x (StatementPlace.named n)) (sym e) LeadsTo.named;
+  suits = named_suits sc b n alive;
+}
 
 passes : (sc : ScopeView) (line : ℕ) (s : Terminal) (c : SourceCause) → next_step sc state.Skip line s ≡ Err c → ⊥
 passes sc line terminal.Percent c h = absurd cc
 passes sc line terminal.End c h = absurd cc
 passes sc line _ c h = absurd cc
 
-flags_pass : (sc : ScopeView) (b : ℕ) (n m : List ℕ) (line : ℕ) (s : Terminal) (c : SourceCause) → next_step sc (state.Flags b n m) line s ≡ Err c → ⊥
+flags_pass : (sc : ScopeView) (b : ℕ) (n m : List ℕ) (line : ℕ) (s : Terminal) (c : SourceCause)
+    → next_step sc (state.Flags b n m) line s ≡ Err c → ⊥
 flags_pass sc b n m line terminal.Percent c h = absurd cc
 flags_pass sc b n m line terminal.End c h = absurd cc
 flags_pass sc b n m line _ c h = absurd cc
@@ -223,11 +249,14 @@ skip_suits sc0 sc = record {
   byte = λ c. refl;
 }
 
-at_skip : (sc0 sc : ScopeView) (line : ℕ) (ps : List Word) → ((rest : List Terminal) → list_all is_inner rest ≡ true → Statement sc0 line (terminals ps ++ (rest ++ terminal.End ∷ [])) sc0) → Standing sc0 state.Skip ps sc
+at_skip : (sc0 sc : ScopeView) (line : ℕ) (ps : List Word)
+    → ((rest : List Terminal) → list_all is_inner rest ≡ true → Statement sc0 line (terminals ps ++ (rest ++ terminal.End ∷ [])) sc0)
+    → Standing sc0 state.Skip ps sc
 at_skip sc0 sc line ps f = record { place = StatementPlace.skipped; stands = LeadsTo.skipped {line = line} f; suits = skip_suits sc0 sc }
 
 in_section : (sc0 : ScopeView) (ss : List Terminal) → InSection sc0 ss → LeadsTo sc0 ss StatementPlace.section
-in_section sc0 ss g = subst (λ (x : List Terminal). LeadsTo sc0 x StatementPlace.section) (sym g.whole) (LeadsTo.section g.more g.naming.passed g.naming.dotted g.naming.section g.naming.is g.inner)
+in_section sc0 ss g = subst (λ (x : List Terminal). LeadsTo sc0 x StatementPlace.section) (sym g.whole)
+    (LeadsTo.section g.more g.naming.passed g.naming.dotted g.naming.section g.naming.is g.inner)
 
 pub flags_suits : (sc0 sc : ScopeView) (b : ℕ) (n m : List ℕ) → Suits sc0 StatementPlace.section sc (state.Flags b n m)
 flags_suits sc0 sc b n m = record {
@@ -237,8 +266,10 @@ flags_suits sc0 sc b n m = record {
   byte = λ c. refl;
 }
 
-at_flags : (sc0 sc : ScopeView) (b : ℕ) (n m : List ℕ) (ps : List Word) → InSection sc0 (terminals ps) → Standing sc0 (state.Flags b n m) ps sc
-at_flags sc0 sc b n m ps st = record { place = StatementPlace.section; stands = in_section sc0 (terminals ps) st; suits = flags_suits sc0 sc b n m }
+at_flags : (sc0 sc : ScopeView) (b : ℕ) (n m : List ℕ) (ps : List Word) → InSection sc0 (terminals ps)
+    → Standing sc0 (state.Flags b n m) ps sc
+at_flags sc0 sc b n m ps st =
+    record { place = StatementPlace.section; stands = in_section sc0 (terminals ps) st; suits = flags_suits sc0 sc b n m }
 
 -- ---- terminals in front of a statement's end
 
@@ -248,13 +279,18 @@ inner_either false a b p q = q
 
 mark_inner : (m : ℕ) → is_inner (mark_terminal m) ≡ true
 mark_inner m =
-    inner_either (m == 36) terminal.Dollar _ refl (inner_either (m == 37) terminal.Percent _ refl (inner_either (m == 40) terminal.Open _ refl (inner_either (m == 41) terminal.Close _ refl (inner_either (m == 42) terminal.Star _ refl
-    (inner_either (m == 43) terminal.Plus _ refl (inner_either (m == 44) terminal.Comma _ refl (inner_either (m == 45) terminal.Minus _ refl (inner_either (m == 58) terminal.Colon terminal.At refl refl))))))))
+    inner_either (m == 36) terminal.Dollar _ refl
+    (inner_either (m == 37) terminal.Percent _ refl
+    (inner_either (m == 40) terminal.Open _ refl (inner_either (m == 41) terminal.Close _ refl (inner_either (m == 42) terminal.Star _ refl
+    (inner_either (m == 43) terminal.Plus _ refl
+    (inner_either (m == 44) terminal.Comma _ refl
+    (inner_either (m == 45) terminal.Minus _ refl (inner_either (m == 58) terminal.Colon terminal.At refl refl))))))))
 
 part_inner : (k : TokenKind) (bytes : List ℕ) → is_part k bytes ≡ true → is_inner (terminal_of k bytes) ≡ true
 part_inner token.End bytes h = absurd cc
 part_inner token.Name bytes h = refl
-part_inner token.Number bytes h = inner_either (nat_lt (number_value bytes) (2 ^ 32)) (terminal.Number (number_value bytes)) terminal.Big refl refl
+part_inner token.Number bytes h =
+    inner_either (nat_lt (number_value bytes) (2 ^ 32)) (terminal.Number (number_value bytes)) terminal.Big refl refl
 part_inner token.Text bytes h = refl
 part_inner (token.Mark m) bytes h = mark_inner m
 
@@ -269,35 +305,42 @@ all_and s ss p q = q
 
 touch_inner : (e : ℕ) (parts : List Word) → Touch e parts → list_all is_inner (terminals parts) ≡ true
 touch_inner e [] h = refl
-touch_inner e (w ∷ ws) (at, part, more) = all_and (terminal_of w.kind w.bytes) (terminals ws) (part_inner w.kind w.bytes part) (touch_inner (w.at + length w.bytes) ws more)
+touch_inner e (w ∷ ws) (at, part, more) =
+    all_and (terminal_of w.kind w.bytes) (terminals ws) (part_inner w.kind w.bytes part) (touch_inner (w.at + length w.bytes) ws more)
 
-pub section_words : (sc0 : ScopeView) (ps : List Word) (b : ℕ) (n m : List ℕ) (e : ℕ) → InName sc0 ps b n m e → (more : List Word) → list_all is_inner (terminals more) ≡ true → InSection sc0 (terminals (ps ++ more))
+pub section_words : (sc0 : ScopeView) (ps : List Word) (b : ℕ) (n m : List ℕ) (e : ℕ) → InName sc0 ps b n m e → (more : List Word)
+    → list_all is_inner (terminals more) ≡ true → InSection sc0 (terminals (ps ++ more))
 section_words sc0 ps b n m e g more inner = record {
   directive = n;
   name = g.front;
   more = terminals (g.parts ++ more);
   whole = rw (g.whole, g.named, g.behind) refl;
   naming = g.naming;
-  inner = ap (list_all is_inner) (terminals-append g.parts more) ∙ all_more (terminals g.parts) (terminals more) (touch_inner (g.second.at + length g.second.bytes) g.parts g.touch) inner;
+  inner = ap (list_all is_inner) (terminals-append g.parts more)
+      ∙ all_more (terminals g.parts) (terminals more) (touch_inner (g.second.at + length g.second.bytes) g.parts g.touch) inner;
 }
 
-sectioned_fails : (sc : ScopeView) (b : ℕ) (n m : List ℕ) (s : Terminal) (c : SourceCause) → sectioned_step sc b n m s ≡ Err c → other_cause s ≡ c
+sectioned_fails : (sc : ScopeView) (b : ℕ) (n m : List ℕ) (s : Terminal) (c : SourceCause)
+    → sectioned_step sc b n m s ≡ Err c → other_cause s ≡ c
 sectioned_fails sc b n m terminal.End c h = absurd cc
 sectioned_fails sc b n m terminal.Comma c h = absurd cc
 sectioned_fails sc b n m _ c h = same_fault _ c h
 
 pub section_suits : (sc0 sc : ScopeView) (b : ℕ) (n m : List ℕ) (e : ℕ) → Suits sc0 StatementPlace.section sc (state.Sectioned b n m e)
 section_suits sc0 sc b n m e = record {
-  cause = λ line s rest c h. behind_is sc0 StatementPlace.section sc (state.Sectioned b n m e) line s rest c (λ d k. sectioned_fails sc b n m s d k) h;
+  cause = λ line s rest c h. behind_is sc0 StatementPlace.section sc (state.Sectioned b n m e) line s rest c
+      (λ d k. sectioned_fails sc b n m s d k) h;
   percent = λ line rest c h. ap (λ (x : SourceCause). percent_cause x rest) (sectioned_fails sc b n m terminal.Percent c h);
   first = λ e. absurd cc;
   byte = λ c. refl;
 }
 
-at_section : (sc0 sc : ScopeView) (b : ℕ) (n m : List ℕ) (e : ℕ) (ps : List Word) → InName sc0 ps b n m e → Standing sc0 (state.Sectioned b n m e) ps sc
+at_section : (sc0 sc : ScopeView) (b : ℕ) (n m : List ℕ) (e : ℕ) (ps : List Word) → InName sc0 ps b n m e
+    → Standing sc0 (state.Sectioned b n m e) ps sc
 at_section sc0 sc b n m e ps g = record {
   place = StatementPlace.section;
-  stands = subst (λ (x : List Word). LeadsTo sc0 (terminals x) StatementPlace.section) (append-nil ps) (in_section sc0 (terminals (ps ++ [])) (section_words sc0 ps b n m e g [] refl));
+  stands = subst (λ (x : List Word). LeadsTo sc0 (terminals x) StatementPlace.section) (append-nil ps)
+      (in_section sc0 (terminals (ps ++ [])) (section_words sc0 ps b n m e g [] refl));
   suits = section_suits sc0 sc b n m e;
 }
 
@@ -324,30 +367,37 @@ module _ (sc0 : ScopeView) (line : ℕ) (o : Open) (ss : List Terminal) (sc : Sc
     | inr (sh, may, sp) ↦ by_begun sh sp (is_unbegun o.so_far) refl
   ]
     where
-      unbegun_quiet : (p : Partial) (xs : List Terminal) (sh : Shape) → Spelled sh p xs → is_unbegun p ≡ true → (xs ≡ []) × (awaits_register p ≡ false)
+      unbegun_quiet : (p : Partial) (xs : List Terminal) (sh : Shape) → Spelled sh p xs → is_unbegun p ≡ true → (xs ≡ [])
+          × (awaits_register p ≡ false)
       unbegun_quiet partial.Nothing xs sh sp u = (sp, refl)
       unbegun_quiet partial.Absent xs sh sp u = (sp.0, refl)
       unbegun_quiet _ xs sh sp u = absurd cc
 
-      by_begun : (sh : Shape) → Spelled sh o.so_far w.arg → (t : Bool) → is_unbegun o.so_far ≡ t → is_percent (last_of (stars o.star ++ w.arg)) ≡ awaits_register o.so_far
+      by_begun : (sh : Shape) → Spelled sh o.so_far w.arg → (t : Bool) → is_unbegun o.so_far ≡ t
+          → is_percent (last_of (stars o.star ++ w.arg)) ≡ awaits_register o.so_far
       by_begun sh sp true u = let q = unbegun_quiet o.so_far w.arg sh sp u in rw (q.0, q.1) (star_only o.star)
       by_begun sh sp false u = let t = spelled_tail sh o.so_far o.star w.arg (w.solid u) sp in t.percent_is ∙ sym (awaits_is o.so_far)
 
-  byte_is : (c : SourceCause) → unwrap_or (pending sc (state.Arguments o)) c ≡ byte_cause sc0 (StatementPlace.argument o.head o.arguments w.behind (stars o.star ++ w.arg)) c
+  byte_is : (c : SourceCause) → unwrap_or (pending sc (state.Arguments o)) c ≡ byte_cause sc0
+      (StatementPlace.argument o.head o.arguments w.behind (stars o.star ++ w.arg)) c
   byte_is c = by_test (awaits_register o.so_far) refl
     where
-      by_test : (t : Bool) → awaits_register o.so_far ≡ t → unwrap_or (pending sc (state.Arguments o)) c ≡ byte_cause sc0 (StatementPlace.argument o.head o.arguments w.behind (stars o.star ++ w.arg)) c
+      by_test : (t : Bool) → awaits_register o.so_far ≡ t → unwrap_or (pending sc (state.Arguments o)) c ≡ byte_cause sc0
+          (StatementPlace.argument o.head o.arguments w.behind (stars o.star ++ w.arg)) c
       by_test true e = let f : is_percent (last_of (stars o.star ++ w.arg)) ≡ true = ends_percent ∙ e in rw (e, f) refl
       by_test false e = let f : is_percent (last_of (stars o.star ++ w.arg)) ≡ false = ends_percent ∙ e in rw (e, f) refl
 
   -- an argument of the shape begins so
-  opened : (sh : Shape) → shape_at o.head (length o.arguments) ≡ Some sh → Spelled sh o.so_far w.arg → (is_nothing o.so_far ≡ true → sh ≡ shape.Name → ⊥) → Opens (Some sh) (stars o.star ++ w.arg)
+  opened : (sh : Shape) → shape_at o.head (length o.arguments) ≡ Some sh → Spelled sh o.so_far w.arg
+      → (is_nothing o.so_far ≡ true → sh ≡ shape.Name → ⊥) → Opens (Some sh) (stars o.star ++ w.arg)
   opened sh may sp never =
       let f = finish sh o.so_far never in
-      let form = spelled_form sh f.last f.form (w.arg ++ terminals_of f.pieces) (run_spelled sh (terminals_of f.pieces) w.arg o.so_far f.last sp f.runs) f.ends in
+      let form = spelled_form sh f.last f.form (w.arg ++ terminals_of f.pieces)
+      (run_spelled sh (terminals_of f.pieces) w.arg o.so_far f.last sp f.runs) f.ends in
       by_star o.star refl (terminals_of f.pieces) f.form form
     where
-      by_star : (t : Bool) → o.star ≡ t → (more : List Terminal) (x : Form) → IsForm sh (w.arg ++ more) x → Opens (Some sh) (stars t ++ w.arg)
+      by_star : (t : Bool) → o.star ≡ t → (more : List Terminal) (x : Form) → IsForm sh (w.arg ++ more) x
+          → Opens (Some sh) (stars t ++ w.arg)
       by_star false e more x form = Opens.some more (record { star = false; form = x }) (IsArgument.plain form)
       by_star true e more x form =
           let operand : is_operand sh ≡ true = ap is_operand (instruction_shape o.head (length o.arguments) sh (w.starred e) may) in
@@ -371,7 +421,8 @@ module _ (sc0 : ScopeView) (line : ℕ) (o : Open) (ss : List Terminal) (sc : Sc
           sp : Spelled sh o.so_far w.arg
           sp = elim w.spelled [
             | inl (x, f) ↦ subst (λ (p : Partial). Spelled sh p w.arg) (sym x) f
-            | inr (sh2, may2, sp2) ↦ let same : sh2 ≡ sh = some_same sh2 sh (sym may2 ∙ may) in subst (λ (x : Shape). Spelled x o.so_far w.arg) same sp2
+            | inr (sh2, may2, sp2) ↦ let same : sh2 ≡ sh =
+                some_same sh2 sh (sym may2 ∙ may) in subst (λ (x : Shape). Spelled x o.so_far w.arg) same sp2
           ]
             where
               some_same : (a b : Shape) → ◌≡◌ {A = Option Shape} (Some a) (Some b) → a ≡ b
@@ -383,7 +434,8 @@ module _ (sc0 : ScopeView) (line : ℕ) (o : Open) (ss : List Terminal) (sc : Sc
               nothing_nil : (p : Partial) (xs : List Terminal) → Spelled sh p xs → is_nothing p ≡ true → xs ≡ []
               nothing_nil partial.Nothing xs q n = q
               nothing_nil _ xs q n = absurd cc
-          no_name true f n = subst (λ (x : Bool). Opens (Some sh) (stars x ++ w.arg)) f (opened sh may sp (λ n2 is. operand_not_name (sym (instruction_shape o.head (length o.arguments) sh (w.starred f) may) ∙ is)))
+          no_name true f n = subst (λ (x : Bool). Opens (Some sh) (stars x ++ w.arg)) f
+              (opened sh may sp (λ n2 is. operand_not_name (sym (instruction_shape o.head (length o.arguments) sh (w.starred f) may) ∙ is)))
             where
               operand_not_name : shape.Operand ≡ shape.Name → ⊥
               operand_not_name e = absurd cc
@@ -397,29 +449,36 @@ module _ (sc0 : ScopeView) (line : ℕ) (o : Open) (ss : List Terminal) (sc : Sc
 
   pub arguments_suit : Suits sc0 (StatementPlace.argument o.head o.arguments w.behind (stars o.star ++ w.arg)) sc (state.Arguments o)
   arguments_suit = record {
-    cause = λ at s more c h. behind_is sc0 (StatementPlace.argument o.head o.arguments w.behind (stars o.star ++ w.arg)) sc (state.Arguments o) at s more c (λ d k. argument_refused sc0 line o ss sc w s d k) h;
+    cause = λ at s more c h. behind_is sc0 (StatementPlace.argument o.head o.arguments w.behind (stars o.star ++ w.arg)) sc
+        (state.Arguments o) at s more c (λ d k. argument_refused sc0 line o ss sc w s d k) h;
     percent = λ at more c h. ap (λ (x : SourceCause). percent_cause x more) (argument_refused sc0 line o ss sc w terminal.Percent c h);
     first = λ e. absurd cc;
     byte = byte_is;
   }
 
-  at_arguments : (ps : List Word) → ss ≡ terminals ps → (p : Word) (q : Word) (rest : List Word) → ps ≡ p ∷ q ∷ rest → Standing sc0 (state.Arguments o) ps sc
+  at_arguments : (ps : List Word) → ss ≡ terminals ps → (p : Word) (q : Word) (rest : List Word) → ps ≡ p ∷ q ∷ rest
+      → Standing sc0 (state.Arguments o) ps sc
   at_arguments ps same p q rest e = record {
     place = StatementPlace.argument o.head o.arguments w.behind (stars o.star ++ w.arg);
-    stands = subst (λ (x : List Terminal). LeadsTo sc0 x (StatementPlace.argument o.head o.arguments w.behind (stars o.star ++ w.arg))) (ap terminals (sym e))
-        (LeadsTo.argument (terminal_of p.kind p.bytes) (terminal_of q.kind q.bytes) (terminals rest) w.lead w.front (stars o.star ++ w.arg) (ap terminals (sym e) ∙ (sym same ∙ w.whole)) w.leads w.separated opens);
+    stands = subst (λ (x : List Terminal). LeadsTo sc0 x (StatementPlace.argument o.head o.arguments w.behind (stars o.star ++ w.arg)))
+        (ap terminals (sym e))
+        (LeadsTo.argument (terminal_of p.kind p.bytes) (terminal_of q.kind q.bytes) (terminals rest) w.lead w.front (stars o.star ++ w.arg)
+        (ap terminals (sym e) ∙ (sym same ∙ w.whole)) w.leads w.separated opens);
     suits = arguments_suit;
   }
 
 -- What is held of a statement stands in a place.
-pub standing : (sc0 : ScopeView) (st : StatementState) (ps : List Word) (sc : ScopeView) → Held sc0 st ps sc → Extra sc0 st ps → doom sc st ≡ None → Standing sc0 st ps sc
+pub standing : (sc0 : ScopeView) (st : StatementState) (ps : List Word) (sc : ScopeView) → Held sc0 st ps sc → Extra sc0 st ps
+    → doom sc st ≡ None → Standing sc0 st ps sc
 standing sc0 st [] sc held extra alive =
     let one : Standing sc st [] sc = subst (λ (x : StatementState). Standing sc x [] sc) (sym held.0) (at_start sc) in
     subst (λ (x : ScopeView). Standing x st [] sc) (sym held.1) one
 standing sc0 state.Start (p ∷ ps) sc held extra alive = absurd (held.0 refl)
-standing sc0 (state.Named b n) (p ∷ ps) sc held extra alive = subst (λ (x : ScopeView). Standing x (state.Named b n) (p ∷ ps) sc) (sym held.1.2) (at_named sc b n (p ∷ ps) held.1.1 alive)
+standing sc0 (state.Named b n) (p ∷ ps) sc held extra alive =
+    subst (λ (x : ScopeView). Standing x (state.Named b n) (p ∷ ps) sc) (sym held.1.2) (at_named sc b n (p ∷ ps) held.1.1 alive)
 standing sc0 state.Skip (p ∷ ps) sc held extra alive = at_skip sc0 sc p.line (p ∷ ps) held.1.1
 standing sc0 (state.Sectioned b n m e) (p ∷ ps) sc held extra alive = at_section sc0 sc b n m e (p ∷ ps) held.1.1
 standing sc0 (state.Flags b n m) (p ∷ ps) sc held extra alive = at_flags sc0 sc b n m (p ∷ ps) extra
-standing sc0 (state.Arguments o) (p ∷ ps) sc held extra alive = at_arguments sc0 p.line o (terminals (p ∷ ps)) sc held.1 (p ∷ ps) refl extra.0 extra.1 extra.2 extra.3
+standing sc0 (state.Arguments o) (p ∷ ps) sc held extra alive =
+    at_arguments sc0 p.line o (terminals (p ∷ ps)) sc held.1 (p ∷ ps) refl extra.0 extra.1 extra.2 extra.3
 standing sc0 (state.Stray l c) (p ∷ ps) sc held extra alive = absurd cc

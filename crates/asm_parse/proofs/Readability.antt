@@ -82,7 +82,8 @@ letter_some (suc b) h = omega arith
 
 words_plain : (bs : List ℕ) → list_all is_word bs ≡ true → Plain bs
 words_plain [] h = All-nil (λ (x : ℕ). 1 ≤ x)
-words_plain (b ∷ bs) h = let p = and_parts (is_word b) (list_all is_word bs) h in All-cons (λ (x : ℕ). 1 ≤ x) b bs (word_some b p.0) (words_plain bs p.1)
+words_plain (b ∷ bs) h = let p =
+    and_parts (is_word b) (list_all is_word bs) h in All-cons (λ (x : ℕ). 1 ≤ x) b bs (word_some b p.0) (words_plain bs p.1)
 
 plain_either : (t : Bool) (a b : Terminal) → PlainTerminal a → PlainTerminal b → PlainTerminal (cond t a b)
 plain_either true a b p q = p
@@ -90,7 +91,8 @@ plain_either false a b p q = q
 
 mark_plain : (m : ℕ) → PlainTerminal (mark_terminal m)
 mark_plain m =
-    plain_either (m == 36) _ _ tt (plain_either (m == 37) _ _ tt (plain_either (m == 40) _ _ tt (plain_either (m == 41) _ _ tt (plain_either (m == 42) _ _ tt
+    plain_either (m == 36) _ _ tt
+    (plain_either (m == 37) _ _ tt (plain_either (m == 40) _ _ tt (plain_either (m == 41) _ _ tt (plain_either (m == 42) _ _ tt
     (plain_either (m == 43) _ _ tt (plain_either (m == 44) _ _ tt (plain_either (m == 45) _ _ tt (plain_either (m == 58) _ _ tt tt))))))))
 
 number_plain : (n : ℕ) → PlainTerminal (number_terminal n)
@@ -137,7 +139,8 @@ record Fit (sc : ScopeView) : Type 0 where
   few : length sc.names ≤ 65536
   named : All (λ (n : List ℕ). Plain n) sc.names
 
-added_named : (names : List (List ℕ)) (n : List ℕ) → Plain n → All (λ (m : List ℕ). Plain m) names → All (λ (m : List ℕ). Plain m) (added names n)
+added_named : (names : List (List ℕ)) (n : List ℕ) → Plain n → All (λ (m : List ℕ). Plain m) names
+    → All (λ (m : List ℕ). Plain m) (added names n)
 added_named names n plain named = by_test (holds names n)
   where
     by_test : (t : Bool) → All (λ (m : List ℕ). Plain m) (cond t names (names ++ n ∷ []))
@@ -169,7 +172,8 @@ none_grown sc sc2 e fit = record {
   items = ap (λ (x : ScopeView). x.items) (sym e);
 }
 
-sees_grown : (sc sc2 : ScopeView) (d : Bool) (o : Option (List ℕ)) → Sees sc d o sc2 → PlainName o → Fit sc → Grown sc sc2 (option_to_list o)
+sees_grown : (sc sc2 : ScopeView) (d : Bool) (o : Option (List ℕ)) → Sees sc d o sc2 → PlainName o → Fit sc
+    → Grown sc sc2 (option_to_list o)
 sees_grown sc sc2 d None h plain fit = none_grown sc sc2 h fit
 sees_grown sc sc2 d (Some n) h plain fit = seen_grown h plain fit
 
@@ -180,24 +184,32 @@ both_grown sc sc1 sc2 ns ms a b = record {
   items = b.items ∙ a.items;
 }
 
-names-end : (before : List Argument) (a : Argument) → argument_names (before ++ a ∷ []) ≡ argument_names before ++ option_to_list (symbol_in a.form)
+names-end : (before : List Argument) (a : Argument) → argument_names (before ++ a ∷ []) ≡ argument_names before
+    ++ option_to_list (symbol_in a.form)
 names-end before a =
     flat_map-append (λ (x : Argument). option_to_list (symbol_in x.form)) before (a ∷ [])
     ∙ ap (λ (x : List (List ℕ)). argument_names before ++ x) (append-nil (option_to_list (symbol_in a.form)))
 
-end_grown : (sc sc1 sc2 : ScopeView) (before : List Argument) (a : Argument) → Grown sc sc1 (argument_names before) → Grown sc1 sc2 (option_to_list (symbol_in a.form)) → Grown sc sc2 (argument_names (before ++ a ∷ []))
-end_grown sc sc1 sc2 before a g h = subst (Grown sc sc2) (sym (names-end before a)) (both_grown sc sc1 sc2 (argument_names before) (option_to_list (symbol_in a.form)) g h)
+end_grown : (sc sc1 sc2 : ScopeView) (before : List Argument) (a : Argument) → Grown sc sc1 (argument_names before)
+    → Grown sc1 sc2 (option_to_list (symbol_in a.form)) → Grown sc sc2 (argument_names (before ++ a ∷ []))
+end_grown sc sc1 sc2 before a g h =
+    subst (Grown sc sc2) (sym (names-end before a)) (both_grown sc sc1 sc2 (argument_names before) (option_to_list (symbol_in a.form)) g h)
 
-next_grown : {h : Head} {sc sc2 : ScopeView} {before : List Argument} {ts : List Terminal} {a : Argument} → IsNext h sc before ts a sc2 → PlainTerminals ts → Fit sc → Grown sc sc2 (option_to_list (symbol_in a.form))
-next_grown {h} {sc} {sc2} {before} {a} next plain fit = sees_grown sc sc2 (defines h (length before)) (symbol_in a.form) next.sees (argument_plain next.is plain) fit
+next_grown : {h : Head} {sc sc2 : ScopeView} {before : List Argument} {ts : List Terminal} {a : Argument} → IsNext h sc before ts a sc2
+    → PlainTerminals ts → Fit sc → Grown sc sc2 (option_to_list (symbol_in a.form))
+next_grown {h} {sc} {sc2} {before} {a} next plain fit =
+    sees_grown sc sc2 (defines h (length before)) (symbol_in a.form) next.sees (argument_plain next.is plain) fit
 
-separated_grown : {h : Head} {sc sc2 : ScopeView} {ss : List Terminal} {args : List Argument} → Separated h sc ss args sc2 → PlainTerminals ss → Fit sc → Grown sc sc2 (argument_names args)
+separated_grown : {h : Head} {sc sc2 : ScopeView} {ss : List Terminal} {args : List Argument} → Separated h sc ss args sc2
+    → PlainTerminals ss → Fit sc → Grown sc sc2 (argument_names args)
 separated_grown {sc} Separated.none plain fit = none_grown sc sc refl fit
 separated_grown {h} {sc} {sc2} (Separated.more {ss} {ts} {before} {a} {sc1} sep next) plain fit =
     let g = separated_grown sep (front_plain ss (ts ++ terminal.Comma ∷ []) plain) fit in
-    end_grown sc sc1 sc2 before a g (next_grown next (front_plain ts (terminal.Comma ∷ []) (back_plain ss (ts ++ terminal.Comma ∷ []) plain)) g.fit)
+    end_grown sc sc1 sc2 before a g
+    (next_grown next (front_plain ts (terminal.Comma ∷ []) (back_plain ss (ts ++ terminal.Comma ∷ []) plain)) g.fit)
 
-arguments_grown : {h : Head} {sc sc2 : ScopeView} {ss : List Terminal} {args : List Argument} → HasArguments h sc ss args sc2 → PlainTerminals ss → Fit sc → Grown sc sc2 (argument_names args)
+arguments_grown : {h : Head} {sc sc2 : ScopeView} {ss : List Terminal} {args : List Argument} → HasArguments h sc ss args sc2
+    → PlainTerminals ss → Fit sc → Grown sc sc2 (argument_names args)
 arguments_grown {sc} HasArguments.none plain fit = none_grown sc sc refl fit
 arguments_grown {h} {sc} {sc2} (HasArguments.some {ss} {ts} {before} {a} {sc1} sep next) plain fit =
     let g = separated_grown sep (front_plain ss ts plain) fit in
@@ -213,13 +225,18 @@ record Tracks (sc : ScopeView) : Type 0 where
 names_in-end : (items : List SourceItem) (i : SourceItem) → names_in (items ++ i ∷ []) ≡ fold added (names_in items) (body_names i.body)
 unfolding names_in
 names_in-end items i =
-    ap (fold added []) (flat_map-append (λ (x : SourceItem). body_names x.body) items (i ∷ []) ∙ ap (λ (x : List (List ℕ)). flat_map (λ (y : SourceItem). body_names y.body) items ++ x) (append-nil (body_names i.body)))
+    ap (fold added []) (flat_map-append (λ (x : SourceItem). body_names x.body) items (i ∷ [])
+    ∙ ap (λ (x : List (List ℕ)). flat_map (λ (y : SourceItem). body_names y.body) items ++ x) (append-nil (body_names i.body)))
     ∙ fold-append added [] (flat_map (λ (x : SourceItem). body_names x.body) items) (body_names i.body)
 
 -- an item whose names a scope has grown by
-tracks_on : (sc sc1 sc2 : ScopeView) (i : SourceItem) → Tracks sc → Grown sc sc1 (body_names i.body) → sc2.names ≡ sc1.names → sc2.items ≡ sc1.items ++ i ∷ [] → Tracks sc2
+tracks_on : (sc sc1 sc2 : ScopeView) (i : SourceItem) → Tracks sc → Grown sc sc1 (body_names i.body) → sc2.names ≡ sc1.names
+    → sc2.items ≡ sc1.items ++ i ∷ [] → Tracks sc2
 tracks_on sc sc1 sc2 i t g same new = record {
-  fit = record { few = subst (λ (x : List (List ℕ)). length x ≤ 65536) (sym same) g.fit.few; named = subst (λ (x : List (List ℕ)). All (λ (n : List ℕ). Plain n) x) (sym same) g.fit.named };
+  fit = record {
+    few = subst (λ (x : List (List ℕ)). length x ≤ 65536) (sym same) g.fit.few;
+    named = subst (λ (x : List (List ℕ)). All (λ (n : List ℕ). Plain n) x) (sym same) g.fit.named;
+  };
   names =
       ap names_in (new ∙ ap (λ (x : List SourceItem). x ++ i ∷ []) g.items)
       ∙ (names_in-end sc.items i ∙ (ap (λ (x : List (List ℕ)). fold added x (body_names i.body)) t.names ∙ (sym g.names ∙ sym same)));
@@ -230,17 +247,21 @@ resumed_names sc (head.Instruction r n) = refl
 resumed_names sc (head.Directive directive.Plain n) = refl
 resumed_names sc (head.Directive _ n) = refl
 
-statement_tracks : {sc sc2 : ScopeView} {line : ℕ} {ss : List Terminal} → Statement sc line ss sc2 → PlainTerminals ss → Tracks sc → Tracks sc2
+statement_tracks : {sc sc2 : ScopeView} {line : ℕ} {ss : List Terminal} → Statement sc line ss sc2 → PlainTerminals ss
+    → Tracks sc → Tracks sc2
 statement_tracks Statement.empty plain t = t
 statement_tracks {sc} {line} (Statement.label {sc2} {n} sk seen) plain t =
     tracks_on sc sc2 _ (record { line = line; body = body.Label n }) t (seen_grown seen plain.0 t.fit) refl refl
 statement_tracks {sc} {line} (Statement.instruction {sc2} {n} {ss} {args} passed dotted rep has) plain t =
-    tracks_on sc sc2 _ (item_of line (head.Instruction false n) args) t (arguments_grown has (front_plain ss (terminal.End ∷ []) plain.1) t.fit) refl refl
+    tracks_on sc sc2 _ (item_of line (head.Instruction false n) args) t
+    (arguments_grown has (front_plain ss (terminal.End ∷ []) plain.1) t.fit) refl refl
 statement_tracks {sc} {line} (Statement.repeated {sc2} {r} {n} {ss} {args} passed dotted rep has) plain t =
-    tracks_on sc sc2 _ (item_of line (head.Instruction true n) args) t (arguments_grown has (front_plain ss (terminal.End ∷ []) plain.1.1) t.fit) refl refl
+    tracks_on sc sc2 _ (item_of line (head.Instruction true n) args) t
+    (arguments_grown has (front_plain ss (terminal.End ∷ []) plain.1.1) t.fit) refl refl
 statement_tracks {sc} {line} (Statement.directive {sc2} {n} {k} {ss} {args} passed dotted dir list has count) plain t =
     tracks_on sc sc2 _ (item_of line (head.Directive k n) args) t (arguments_grown has (front_plain ss (terminal.End ∷ []) plain.1) t.fit)
-    (resumed_names (pushed sc2 (item_of line (head.Directive k n) args)) (head.Directive k n)) (resumed_items (pushed sc2 (item_of line (head.Directive k n) args)) (head.Directive k n))
+    (resumed_names (pushed sc2 (item_of line (head.Directive k n) args)) (head.Directive k n))
+    (resumed_items (pushed sc2 (item_of line (head.Directive k n) args)) (head.Directive k n))
 statement_tracks (Statement.skipped_directive ss passed dotted dir u h) plain t = t
 statement_tracks (Statement.skipped_label sk) plain t = t
 statement_tracks (Statement.skipped ss passed u h) plain t = t
@@ -249,13 +270,18 @@ statement_tracks (Statement.nameless ss sk k h) plain t = t
 piece_tracks : {sc sc2 : ScopeView} {ws : List Word} → IsStatement sc ws sc2 → PlainTerminals (terminals ws) → Tracks sc → Tracks sc2
 piece_tracks (IsStatement.plain w ws st) plain t = statement_tracks st plain t
 piece_tracks {sc} (IsStatement.section {n} {m} w v parts rest ss wn passed dotted dir vm is touch end flags) plain t =
-    tracks_on sc sc _ (record { line = w.line; body = body.Directive n (record { star = false; form = form.Text (m ++ text_of parts) } ∷ []) }) t (none_grown sc sc refl t.fit) refl refl
+    tracks_on sc sc _ (record {
+      line = w.line;
+      body = body.Directive n (record { star = false; form = form.Text (m ++ text_of parts) } ∷ []);
+    }) t (none_grown sc sc refl t.fit) refl refl
 
 statements_track : {sc sc2 : ScopeView} {ws : List Word} → Statements sc ws sc2 → PlainTerminals (terminals ws) → Tracks sc → Tracks sc2
 statements_track Statements.none plain t = t
 statements_track {ws} (Statements.more piece rest e st tail) plain t =
-    let whole : PlainTerminals (terminals piece ++ terminals rest) = subst PlainTerminals (ap terminals e ∙ terminals-append piece rest) plain in
-    statements_track tail (back_plain (terminals piece) (terminals rest) whole) (piece_tracks st (front_plain (terminals piece) (terminals rest) whole) t)
+    let whole : PlainTerminals (terminals piece ++ terminals rest) =
+    subst PlainTerminals (ap terminals e ∙ terminals-append piece rest) plain in
+    statements_track tail (back_plain (terminals piece) (terminals rest) whole)
+    (piece_tracks st (front_plain (terminals piece) (terminals rest) whole) t)
 
 fresh_tracks : Tracks fresh
 unfolding names_in
@@ -281,6 +307,7 @@ source_readable text items small says = by_words says
 pub source_items : (text : List ℕ) (items : List SourceItem) → SourceAs text items → IsReadable items
 source_items text items (small, says) = source_readable text items small says
 
-pub parsed_readable : (text : List ℕ) (x : Result (List SourceItem) SourceFault) → length text ≤ LIMIT → Parses x (read text) → IfOk x IsReadable
+pub parsed_readable : (text : List ℕ) (x : Result (List SourceItem) SourceFault) → length text ≤ LIMIT
+    → Parses x (read text) → IfOk x IsReadable
 parsed_readable text (Ok x) small p = let s = parsed_is text (Ok x) small p in source_readable text x small s.1
 parsed_readable text (Err e) small p = tt

@@ -69,13 +69,16 @@ strayed_quiet line (Err c) h = by_place (is_place c)
     by_place false = tt
 
 first_quiet : (sc : ScopeView) (line : ℕ) (s : Terminal) → Quietly (next_step sc state.Start line s)
-first_quiet sc line terminal.Percent = strayed_quiet (fault_line sc state.Start line) (step sc state.Start line terminal.Percent) (start_quiet sc line terminal.Percent)
+first_quiet sc line terminal.Percent =
+    strayed_quiet (fault_line sc state.Start line) (step sc state.Start line terminal.Percent) (start_quiet sc line terminal.Percent)
 first_quiet sc line s = start_quiet sc line s
 
-begun_flags : (sc0 sc : ScopeView) (line : ℕ) (ss : List Terminal) (st : StatementState) (b : ℕ) (n m : List ℕ) → Begun sc0 line st ss sc → st ≡ state.Flags b n m → ⊥
+begun_flags : (sc0 sc : ScopeView) (line : ℕ) (ss : List Terminal) (st : StatementState) (b : ℕ) (n m : List ℕ) → Begun sc0 line st ss sc
+    → st ≡ state.Flags b n m → ⊥
 begun_flags sc0 sc line ss st b n m g e = subst (λ (x : StatementState). Begun sc0 line x ss sc) e g
 
-more_section : (sc0 : ScopeView) (ps : List Word) (w : Word) → InSection sc0 (terminals ps) → is_inner (terminal_of w.kind w.bytes) ≡ true → InSection sc0 (terminals (ps ++ w ∷ []))
+more_section : (sc0 : ScopeView) (ps : List Word) (w : Word) → InSection sc0 (terminals ps) → is_inner (terminal_of w.kind w.bytes) ≡ true
+    → InSection sc0 (terminals (ps ++ w ∷ []))
 more_section sc0 ps w g inner = record {
   directive = g.directive;
   name = g.name;
@@ -91,13 +94,16 @@ more_section sc0 ps w g inner = record {
 
 module _ (sc0 sc : ScopeView) (w : Word) (z : ScopeView × StatementState) where
   -- the state's terminal, where no section's name is open
-  plain_flags : (st : StatementState) (p : Word) (ps : List Word) (b : ℕ) (n m : List ℕ) → (st ≡ state.Start → ⊥) → is_naming st ≡ false → Begun sc0 p.line st (terminals (p ∷ ps)) sc → next_word sc st w ≡ Ok z → z.1 ≡ state.Flags b n m → ⊥
+  plain_flags : (st : StatementState) (p : Word) (ps : List Word) (b : ℕ) (n m : List ℕ) → (st ≡ state.Start → ⊥) → is_naming st ≡ false
+      → Begun sc0 p.line st (terminals (p ∷ ps)) sc → next_word sc st w ≡ Ok z → z.1 ≡ state.Flags b n m → ⊥
   plain_flags st p ps b n m inside plain g h e = elim (word_goes sc st w z h) [
     | WordGoes.on t k ↦ absurd (both t (not_longer st w.at w.kind w.bytes plain))
     | WordGoes.as_terminal y t f k ↦
-        let flags : y.1 ≡ state.Flags b n m = ending_flags y.1 (w.at + length w.bytes) b n m (sym (ap (λ (x : ScopeView × StatementState). x.1) k) ∙ e) in
+        let flags : y.1 ≡ state.Flags b n m =
+        ending_flags y.1 (w.at + length w.bytes) b n m (sym (ap (λ (x : ScopeView × StatementState). x.1) k) ∙ e) in
         begun_flags sc0 y.0 p.line (terminals (p ∷ ps) ++ terminal_of w.kind w.bytes ∷ []) y.1 b n m
-        (next_begun sc0 sc p.line w.line st (terminals (p ∷ ps) ++ terminal_of w.kind w.bytes ∷ []) (terminal_of w.kind w.bytes) y (begun_more sc0 sc p.line w.line st (terminals (p ∷ ps)) (terminal_of w.kind w.bytes) y inside plain g) f) flags
+        (next_begun sc0 sc p.line w.line st (terminals (p ∷ ps) ++ terminal_of w.kind w.bytes ∷ []) (terminal_of w.kind w.bytes) y
+        (begun_more sc0 sc p.line w.line st (terminals (p ∷ ps)) (terminal_of w.kind w.bytes) y inside plain g) f) flags
   ]
     where
       both : {t : Bool} → t ≡ true → t ≡ false → ⊥
@@ -107,9 +113,11 @@ module _ (sc0 sc : ScopeView) (w : Word) (z : ScopeView × StatementState) where
   start_flags b n m h e = elim (word_goes sc state.Start w z h) [
     | WordGoes.on t k ↦ absurd cc
     | WordGoes.as_terminal y t f k ↦
-        let flags : y.1 ≡ state.Flags b n m = ending_flags y.1 (w.at + length w.bytes) b n m (sym (ap (λ (x : ScopeView × StatementState). x.1) k) ∙ e) in
+        let flags : y.1 ≡ state.Flags b n m =
+        ending_flags y.1 (w.at + length w.bytes) b n m (sym (ap (λ (x : ScopeView × StatementState). x.1) k) ∙ e) in
         begun_flags sc y.0 w.line (terminal_of w.kind w.bytes ∷ []) y.1 b n m
-        (next_begun sc sc w.line w.line state.Start (terminal_of w.kind w.bytes ∷ []) (terminal_of w.kind w.bytes) y (start_begun sc w.line (terminal_of w.kind w.bytes) y) f) flags
+        (next_begun sc sc w.line w.line state.Start (terminal_of w.kind w.bytes ∷ []) (terminal_of w.kind w.bytes) y
+        (start_begun sc w.line (terminal_of w.kind w.bytes) y) f) flags
   ]
 
   inner_or : (s : Terminal) → (s ≡ terminal.End) ⊎ (is_inner s ≡ true)
@@ -117,18 +125,26 @@ module _ (sc0 sc : ScopeView) (w : Word) (z : ScopeView × StatementState) where
   inner_or s = inr refl
 
   -- an end leads after the statement
-  name_ended : (line a : ℕ) (k l : List ℕ) (x b : ℕ) (n m : List ℕ) (y : ScopeView × StatementState) → next_step sc (state.Sectioned a k l x) line terminal.End ≡ Ok y → y.1 ≡ state.Flags b n m → ⊥
-  name_ended line a k l x b n m y h e = let g : (sectioned sc a k l, state.Start) ≡ y = cc in let f : state.Start ≡ state.Flags b n m = ap (λ (v : ScopeView × StatementState). v.1) g ∙ e in absurd cc
+  name_ended : (line a : ℕ) (k l : List ℕ) (x b : ℕ) (n m : List ℕ) (y : ScopeView × StatementState)
+      → next_step sc (state.Sectioned a k l x) line terminal.End ≡ Ok y → y.1 ≡ state.Flags b n m → ⊥
+  name_ended line a k l x b n m y h e = let g : (sectioned sc a k l, state.Start) ≡ y =
+      cc in let f : state.Start ≡ state.Flags b n m = ap (λ (v : ScopeView × StatementState). v.1) g ∙ e in absurd cc
 
-  flags_ended : (line a : ℕ) (k l : List ℕ) (b : ℕ) (n m : List ℕ) (y : ScopeView × StatementState) → next_step sc (state.Flags a k l) line terminal.End ≡ Ok y → y.1 ≡ state.Flags b n m → ⊥
-  flags_ended line a k l b n m y h e = let g : (sectioned sc a k l, state.Start) ≡ y = cc in let f : state.Start ≡ state.Flags b n m = ap (λ (v : ScopeView × StatementState). v.1) g ∙ e in absurd cc
+  flags_ended : (line a : ℕ) (k l : List ℕ) (b : ℕ) (n m : List ℕ) (y : ScopeView × StatementState)
+      → next_step sc (state.Flags a k l) line terminal.End ≡ Ok y → y.1 ≡ state.Flags b n m → ⊥
+  flags_ended line a k l b n m y h e = let g : (sectioned sc a k l, state.Start) ≡ y =
+      cc in let f : state.Start ≡ state.Flags b n m = ap (λ (v : ScopeView × StatementState). v.1) g ∙ e in absurd cc
 
-  flags_inner : (st : StatementState) (b : ℕ) (n m : List ℕ) → ((y : ScopeView × StatementState) → next_step sc st w.line terminal.End ≡ Ok y → y.1 ≡ state.Flags b n m → ⊥) → ((longer_to : StatementState) → longer_to ≡ longer st (w.at + length w.bytes) w.bytes → is_longer st w.at w.kind w.bytes ≡ true → longer_to ≡ state.Flags b n m → ⊥)
+  flags_inner : (st : StatementState) (b : ℕ) (n m : List ℕ)
+      → ((y : ScopeView × StatementState) → next_step sc st w.line terminal.End ≡ Ok y → y.1 ≡ state.Flags b n m → ⊥)
+      → ((longer_to : StatementState) → longer_to ≡ longer st (w.at + length w.bytes) w.bytes → is_longer st w.at w.kind w.bytes ≡ true
+      → longer_to ≡ state.Flags b n m → ⊥)
       → next_word sc st w ≡ Ok z → z.1 ≡ state.Flags b n m → is_inner (terminal_of w.kind w.bytes) ≡ true
   flags_inner st b n m never never_on h e = elim (word_goes sc st w z h) [
     | WordGoes.on t k ↦ absurd (never_on z.1 (ap (λ (v : ScopeView × StatementState). v.1) k) t e)
     | WordGoes.as_terminal y t f k ↦
-        let flags : y.1 ≡ state.Flags b n m = ending_flags y.1 (w.at + length w.bytes) b n m (sym (ap (λ (x : ScopeView × StatementState). x.1) k) ∙ e) in
+        let flags : y.1 ≡ state.Flags b n m =
+        ending_flags y.1 (w.at + length w.bytes) b n m (sym (ap (λ (x : ScopeView × StatementState). x.1) k) ∙ e) in
         elim (inner_or (terminal_of w.kind w.bytes)) [
           | inl end ↦ absurd (never y (ap (next_step sc st w.line) (sym end) ∙ f) flags)
           | inr inner ↦ inner
@@ -139,30 +155,36 @@ module _ (sc0 sc : ScopeView) (w : Word) (z : ScopeView × StatementState) where
   start_arguments o h e = elim (word_goes sc state.Start w z h) [
     | WordGoes.on t k ↦ absurd cc
     | WordGoes.as_terminal y t f k ↦
-        let arguments : y.1 ≡ state.Arguments o = ending_arguments y.1 (w.at + length w.bytes) o (sym (ap (λ (x : ScopeView × StatementState). x.1) k) ∙ e) in
+        let arguments : y.1 ≡ state.Arguments o =
+        ending_arguments y.1 (w.at + length w.bytes) o (sym (ap (λ (x : ScopeView × StatementState). x.1) k) ∙ e) in
         let quiet : Quietly (Ok y) = subst Quietly f (first_quiet sc w.line (terminal_of w.kind w.bytes)) in
         quiet o arguments
   ]
 
-  flags_extra : (st : StatementState) (ps : List Word) (b : ℕ) (n m : List ℕ) → Held sc0 st ps sc → Extra sc0 st ps → next_word sc st w ≡ Ok z → z.1 ≡ state.Flags b n m → InSection sc0 (terminals (ps ++ w ∷ []))
+  flags_extra : (st : StatementState) (ps : List Word) (b : ℕ) (n m : List ℕ) → Held sc0 st ps sc → Extra sc0 st ps
+      → next_word sc st w ≡ Ok z → z.1 ≡ state.Flags b n m → InSection sc0 (terminals (ps ++ w ∷ []))
   flags_extra st [] b n m held extra h e = absurd (start_flags b n m (subst (λ (x : StatementState). next_word sc x w ≡ Ok z) held.0 h) e)
   flags_extra state.Start (p ∷ ps) b n m held extra h e = absurd (held.0 refl)
   flags_extra (state.Named a k) (p ∷ ps) b n m held extra h e = absurd (plain_flags (state.Named a k) p ps b n m held.0 refl held.1 h e)
   flags_extra state.Skip (p ∷ ps) b n m held extra h e = absurd (plain_flags state.Skip p ps b n m held.0 refl held.1 h e)
   flags_extra (state.Sectioned a k l x) (p ∷ ps) b n m held extra h e =
       section_words sc0 (p ∷ ps) a k l x held.1.1 (w ∷ [])
-      (all_and (terminal_of w.kind w.bytes) [] (flags_inner (state.Sectioned a k l x) b n m (λ y f g. name_ended w.line a k l x b n m y f g) (λ v f t g. absurd cc) h e) refl)
+      (all_and (terminal_of w.kind w.bytes) [] (flags_inner (state.Sectioned a k l x) b n m (λ y f g. name_ended w.line a k l x b n m y f g)
+      (λ v f t g. absurd cc) h e) refl)
   flags_extra (state.Flags a k l) (p ∷ ps) b n m held extra h e =
-      more_section sc0 (p ∷ ps) w extra (flags_inner (state.Flags a k l) b n m (λ y f g. flags_ended w.line a k l b n m y f g) (λ v f t g. absurd cc) h e)
+      more_section sc0 (p ∷ ps) w extra
+      (flags_inner (state.Flags a k l) b n m (λ y f g. flags_ended w.line a k l b n m y f g) (λ v f t g. absurd cc) h e)
   flags_extra (state.Arguments o) (p ∷ ps) b n m held extra h e = absurd (plain_flags (state.Arguments o) p ps b n m held.0 refl held.1 h e)
   flags_extra (state.Stray l c) (p ∷ ps) b n m held extra h e = absurd (plain_flags (state.Stray l c) p ps b n m held.0 refl held.1 h e)
 
-  arguments_extra : (st : StatementState) (ps : List Word) (o : Open) → Held sc0 st ps sc → next_word sc st w ≡ Ok z → z.1 ≡ state.Arguments o → Extra sc0 (state.Arguments o) (ps ++ w ∷ [])
+  arguments_extra : (st : StatementState) (ps : List Word) (o : Open) → Held sc0 st ps sc → next_word sc st w ≡ Ok z
+      → z.1 ≡ state.Arguments o → Extra sc0 (state.Arguments o) (ps ++ w ∷ [])
   arguments_extra st [] o held h e = absurd (start_arguments o (subst (λ (x : StatementState). next_word sc x w ≡ Ok z) held.0 h) e)
   arguments_extra st (p ∷ []) o held h e = (p, w, [], refl)
   arguments_extra st (p ∷ q ∷ ps) o held h e = (p, q, ps ++ w ∷ [], refl)
 
-  pub extra_more : (st : StatementState) (ps : List Word) → Held sc0 st ps sc → Extra sc0 st ps → next_word sc st w ≡ Ok z → Extra sc0 z.1 (ps ++ w ∷ [])
+  pub extra_more : (st : StatementState) (ps : List Word) → Held sc0 st ps sc → Extra sc0 st ps → next_word sc st w ≡ Ok z
+      → Extra sc0 z.1 (ps ++ w ∷ [])
   extra_more st ps held extra h = by_state z.1 refl
     where
       by_state : (st2 : StatementState) → z.1 ≡ st2 → Extra sc0 st2 (ps ++ w ∷ [])
@@ -172,9 +194,11 @@ module _ (sc0 sc : ScopeView) (w : Word) (z : ScopeView × StatementState) where
 
 -- ---- word by word
 
-statements_append : {sc sc2 sc3 : ScopeView} {ws ps : List Word} → Statements sc ws sc2 → IsStatement sc2 ps sc3 → Statements sc (ws ++ ps) sc3
+statements_append : {sc sc2 sc3 : ScopeView} {ws ps : List Word} → Statements sc ws sc2 → IsStatement sc2 ps sc3
+    → Statements sc (ws ++ ps) sc3
 statements_append {ps} Statements.none st = Statements.more ps [] (sym (append-nil ps)) st Statements.none
-statements_append {ps} (Statements.more piece rest e is tail) st = Statements.more piece (rest ++ ps) (ap (λ (x : List Word). x ++ ps) e ∙ append_assoc piece rest ps) is (statements_append tail st)
+statements_append {ps} (Statements.more piece rest e is tail) st =
+    Statements.more piece (rest ++ ps) (ap (λ (x : List Word). x ++ ps) e ∙ append_assoc piece rest ps) is (statements_append tail st)
 
 pub named_front : (xs ys : List Word) → AreNamed (xs ++ ys) → AreNamed xs
 named_front [] ys h = tt
@@ -193,7 +217,8 @@ record Walk (all ws : List Word) (sc : ScopeView) (st : StatementState) : Type 0
   good : GoodIn Any sc
   alive : doom sc st ≡ None
 
-onward : (all ws before : List Word) (sc0 : ScopeView) (hd : Word) (ps : List Word) (sc : ScopeView) (st : StatementState) → all ≡ (before ++ (hd ∷ ps)) ++ ws → read_words fresh state.Start (before ++ (hd ∷ ps)) ≡ Ok (sc, st) → Statements fresh before sc0
+onward : (all ws before : List Word) (sc0 : ScopeView) (hd : Word) (ps : List Word) (sc : ScopeView) (st : StatementState)
+    → all ≡ (before ++ (hd ∷ ps)) ++ ws → read_words fresh state.Start (before ++ (hd ∷ ps)) ≡ Ok (sc, st) → Statements fresh before sc0
     → HeldBy sc0 st hd ps sc → Extra sc0 st (hd ∷ ps) → GoodIn Any sc → doom sc st ≡ None → Walk all ws sc st
 onward all ws before sc0 hd ps sc state.Start whole runs statements held extra good alive = record {
   before = before ++ (hd ∷ ps);
@@ -220,15 +245,19 @@ onward all ws before sc0 hd ps sc st whole runs statements held extra good alive
   alive = alive;
 }
 
-module _ (all ws : List Word) (w : Word) (sc : ScopeView) (st : StatementState) (k : Walk all (w ∷ ws) sc st) (z : ScopeView × StatementState) (h : next_word sc st w ≡ Ok z) where
+module _ (all ws : List Word) (w : Word) (sc : ScopeView) (st : StatementState) (k : Walk all (w ∷ ws) sc st)
+    (z : ScopeView × StatementState) (h : next_word sc st w ≡ Ok z) where
   good_next : GoodIn Any z.0
   good_next = let n = any_next sc st w z k.good h in n.scope
 
   new_runs : read_words fresh state.Start ((k.before ++ k.begun) ++ w ∷ []) ≡ Ok z
-  new_runs = words_append (k.before ++ k.begun) (w ∷ []) fresh state.Start (sc, st) k.runs ∙ ap (λ (r : Answer). placed (fault_line sc st w.line) r >>= λ y. read_words y.0 y.1 []) h
+  new_runs = words_append (k.before ++ k.begun) (w ∷ []) fresh state.Start (sc, st) k.runs
+      ∙ ap (λ (r : Answer). placed (fault_line sc st w.line) r >>= λ y. read_words y.0 y.1 []) h
 
   new_whole : all ≡ (k.before ++ (k.begun ++ w ∷ [])) ++ ws
-  new_whole = k.whole ∙ (sym (append_assoc (k.before ++ k.begun) (w ∷ []) ws) ∙ ap (λ (x : List Word). x ++ ws) (append_assoc k.before k.begun (w ∷ [])))
+  new_whole =
+      k.whole ∙ (sym (append_assoc (k.before ++ k.begun) (w ∷ []) ws) ∙ ap (λ (x : List Word). x ++ ws)
+      (append_assoc k.before k.begun (w ∷ [])))
 
   joined_runs : read_words fresh state.Start (k.before ++ (k.begun ++ w ∷ [])) ≡ Ok z
   joined_runs = ap (read_words fresh state.Start) (sym (append_assoc k.before k.begun (w ∷ []))) ∙ new_runs
@@ -236,12 +265,14 @@ module _ (all ws : List Word) (w : Word) (sc : ScopeView) (st : StatementState) 
   walk_next : doom z.0 z.1 ≡ None → Walk all ws z.0 z.1
   walk_next alive = by_begun k.begun k.held new_whole joined_runs (extra_more k.scope sc w z st k.begun k.held k.extra h)
     where
-      by_begun : (ps : List Word) → Held k.scope st ps sc → all ≡ (k.before ++ (ps ++ w ∷ [])) ++ ws → read_words fresh state.Start (k.before ++ (ps ++ w ∷ [])) ≡ Ok z → Extra k.scope z.1 (ps ++ w ∷ []) → Walk all ws z.0 z.1
+      by_begun : (ps : List Word) → Held k.scope st ps sc → all ≡ (k.before ++ (ps ++ w ∷ [])) ++ ws
+          → read_words fresh state.Start (k.before ++ (ps ++ w ∷ [])) ≡ Ok z → Extra k.scope z.1 (ps ++ w ∷ []) → Walk all ws z.0 z.1
       by_begun [] held whole runs extra =
           let e : next_word sc state.Start w ≡ Ok z = subst (λ (x : StatementState). next_word sc x w ≡ Ok z) held.0 h in
           let b : HeldBy k.scope z.1 w [] z.0 = subst (λ (x : ScopeView). HeldBy x z.1 w [] z.0) (sym held.1) (first_held sc w z e) in
           onward all ws k.before k.scope w [] z.0 z.1 whole runs k.statements b extra good_next alive
-      by_begun (p ∷ ps) held whole runs extra = onward all ws k.before k.scope p (ps ++ w ∷ []) z.0 z.1 whole runs k.statements (held_more k.scope sc st p ps w z held.0 held.1 h) extra good_next alive
+      by_begun (p ∷ ps) held whole runs extra = onward all ws k.before k.scope p (ps ++ w ∷ []) z.0 z.1 whole runs k.statements
+          (held_more k.scope sc st p ps w z held.0 held.1 h) extra good_next alive
 
 abbrev Later : List Word → Ending → Fault → List Word → Type 0
 Later all e f ws = (sc2 : ScopeView) (st2 : StatementState) → Walk all ws sc2 st2 → fault_in sc2 st2 ws e ≡ Some f → Found all e f
@@ -257,64 +288,97 @@ module _ (all : List Word) (e : Ending) (f : Fault) (named : AreNamed all) where
     begins : IsBeginning (k.before ++ k.begun)
     begins = beginning (k.before ++ k.begun) sc st (named_front (k.before ++ k.begun) ws (subst AreNamed k.whole named)) k.runs k.alive
 
-  at_end : (sc : ScopeView) (st : StatementState) (k : Walk all [] sc st) (d : Ending) → e ≡ d → fault_in sc st [] d ≡ Some f → Found all e f
+  at_end : (sc : ScopeView) (st : StatementState) (k : Walk all [] sc st) (d : Ending) → e ≡ d
+      → fault_in sc st [] d ≡ Some f → Found all e f
   at_end sc st k Ending.whole is h = absurd cc
   at_end sc st k (Ending.broken l c) is h =
       let r = reaches [] sc st k in
       let whole : (k.before ++ k.begun) ≡ all = sym (k.whole ∙ append-nil (k.before ++ k.begun)) in
       let s = stands [] sc st k in
-      let fault : f ≡ (l, byte_cause k.scope s.place c) = sym (some_same (stopped sc st l c) f h) ∙ (ap (λ (x : Option ℕ). (unwrap_or x l, unwrap_or (pending sc st) c)) k.alive ∙ ap (λ (x : SourceCause). (l, x)) (s.suits.byte c)) in
+      let fault : f ≡ (l, byte_cause k.scope s.place c) = sym (some_same (stopped sc st l c) f h)
+      ∙ (ap (λ (x : Option ℕ). (unwrap_or x l, unwrap_or (pending sc st) c)) k.alive ∙ ap (λ (x : SourceCause). (l, x)) (s.suits.byte c)) in
       Found.byte is (subst IsBeginning whole (begins [] sc st k)) (subst (λ (x : List Word). Reaches x k.scope s.place) whole r) fault
   at_end sc st k (Ending.comment l) is h =
       let whole : (k.before ++ k.begun) ≡ all = sym (k.whole ∙ append-nil (k.before ++ k.begun)) in
-      let fault : f ≡ (l, cause.OpenComment) = sym (some_same (left_open sc st l) f h) ∙ ap (λ (x : Option ℕ). open_at_end x (pending sc st) l) k.alive in
+      let fault : f ≡ (l, cause.OpenComment) =
+      sym (some_same (left_open sc st l) f h) ∙ ap (λ (x : Option ℕ). open_at_end x (pending sc st) l) k.alive in
       Found.comment is (subst IsBeginning whole (begins [] sc st k)) fault
 
-  at_refused : (w : Word) (ws : List Word) (sc : ScopeView) (st : StatementState) (c : SourceCause) → Walk all (w ∷ ws) sc st → next_word sc st w ≡ Err c → placed_in (fault_line sc st w.line) ws e (Err c) ≡ Some f → Found all e f
+  at_refused : (w : Word) (ws : List Word) (sc : ScopeView) (st : StatementState) (c : SourceCause) → Walk all (w ∷ ws) sc st
+      → next_word sc st w ≡ Err c → placed_in (fault_line sc st w.line) ws e (Err c) ≡ Some f → Found all e f
   at_refused w ws sc st c k h g =
       let s = stands (w ∷ ws) sc st k in
       let same = s.suits.cause w.line (terminal_of w.kind w.bytes) (terminals ws) c (word_fails sc st w c h) in
-      let fault : f ≡ (w.line, refused_cause k.scope s.place (terminal_of w.kind w.bytes) (terminals ws)) = sym (some_same (fault_line sc st w.line, c) f g) ∙ (ap (λ (x : Option ℕ). (unwrap_or x w.line, c)) k.alive ∙ ap (λ (x : SourceCause). (w.line, x)) (sym same)) in
-      Found.word (k.before ++ k.begun) ws w k.whole (begins (w ∷ ws) sc st k) (refused_never (k.before ++ k.begun) w sc st (fault_line sc st w.line, c) k.runs (ap (placed (fault_line sc st w.line)) h)) (reaches (w ∷ ws) sc st k) fault
+      let fault : f ≡ (w.line, refused_cause k.scope s.place (terminal_of w.kind w.bytes) (terminals ws)) =
+      sym (some_same (fault_line sc st w.line, c) f g)
+      ∙ (ap (λ (x : Option ℕ). (unwrap_or x w.line, c)) k.alive ∙ ap (λ (x : SourceCause). (w.line, x)) (sym same)) in
+      Found.word (k.before ++ k.begun) ws w k.whole (begins (w ∷ ws) sc st k)
+      (refused_never (k.before ++ k.begun) w sc st (fault_line sc st w.line, c) k.runs (ap (placed (fault_line sc st w.line)) h))
+      (reaches (w ∷ ws) sc st k) fault
 
-  at_doomed : (w : Word) (ws : List Word) (sc : ScopeView) (st : StatementState) (z : ScopeView × StatementState) (l : ℕ) (k : Walk all (w ∷ ws) sc st) → next_word sc st w ≡ Ok z → doom z.0 z.1 ≡ Some l → fault_in z.0 z.1 ws e ≡ Some f → Found all e f
+  at_doomed : (w : Word) (ws : List Word) (sc : ScopeView) (st : StatementState) (z : ScopeView × StatementState) (l : ℕ)
+      (k : Walk all (w ∷ ws) sc st) → next_word sc st w ≡ Ok z → doom z.0 z.1 ≡ Some l → fault_in z.0 z.1 ws e ≡ Some f → Found all e f
   at_doomed w ws sc st z l k h d g =
-      Found.word (k.before ++ k.begun) ws w k.whole (begins (w ∷ ws) sc st k) (doomed_never (k.before ++ k.begun) w sc st z l k.runs h (good_next all ws w sc st k z h) d) (reaches (w ∷ ws) sc st k) (by_doomed (doomed_word sc st w z l h d))
+      Found.word (k.before ++ k.begun) ws w k.whole (begins (w ∷ ws) sc st k)
+      (doomed_never (k.before ++ k.begun) w sc st z l k.runs h (good_next all ws w sc st k z h) d) (reaches (w ∷ ws) sc st k)
+      (by_doomed (doomed_word sc st w z l h d))
     where
       same_line : (t : Bool) (b l : ℕ) → then_some t b ≡ Some l → then_some t b ≡ Some b
       same_line true b l h = refl
       same_line false b l h = absurd cc
 
-      by_doomed : Doomed sc st w z → f ≡ (w.line, refused_cause k.scope (stands (w ∷ ws) sc st k).place (terminal_of w.kind w.bytes) (terminals ws))
+      by_doomed : Doomed sc st w z
+          → f ≡ (w.line, refused_cause k.scope (stands (w ∷ ws) sc st k).place (terminal_of w.kind w.bytes) (terminals ws))
       by_doomed (Doomed.name n x y q) =
           let at_first = (stands (w ∷ ws) sc st k).suits.first x in
           let dead : doom sc (state.Named w.line n) ≡ Some l = sym (ap (λ (v : ScopeView × StatementState). doom v.0 v.1) q) ∙ d in
-          let dead2 : doom sc (state.Named w.line n) ≡ Some w.line = same_line ((is_unknown sc n && is_taken sc n) || lacks_names sc n) w.line l dead in
-          let fault : f ≡ (w.line, first_name_cause sc n (terminals ws)) = name_fault sc w.line n ws e f k.good dead2 (sym (ap (λ (v : ScopeView × StatementState). fault_in v.0 v.1 ws e) q) ∙ g) in
-          let same : refused_cause k.scope (stands (w ∷ ws) sc st k).place (terminal_of w.kind w.bytes) (terminals ws) ≡ first_name_cause sc n (terminals ws) =
+          let dead2 : doom sc (state.Named w.line n) ≡ Some w.line =
+          same_line ((is_unknown sc n && is_taken sc n) || lacks_names sc n) w.line l dead in
+          let fault : f ≡ (w.line, first_name_cause sc n (terminals ws)) =
+          name_fault sc w.line n ws e f k.good dead2 (sym (ap (λ (v : ScopeView × StatementState). fault_in v.0 v.1 ws e) q) ∙ g) in
+          let same : refused_cause k.scope (stands (w ∷ ws) sc st k).place (terminal_of w.kind w.bytes) (terminals ws) ≡ first_name_cause
+          sc n (terminals ws) =
           ap (λ (v : StatementPlace). refused_cause k.scope v (terminal_of w.kind w.bytes) (terminals ws)) at_first.1
-          ∙ (ap (λ (v : Terminal). refused_cause k.scope StatementPlace.first v (terminals ws)) y ∙ ap (λ (v : ScopeView). first_name_cause v n (terminals ws)) at_first.0) in
+          ∙ (ap (λ (v : Terminal). refused_cause k.scope StatementPlace.first v (terminals ws)) y
+          ∙ ap (λ (v : ScopeView). first_name_cause v n (terminals ws)) at_first.0) in
           fault ∙ ap (λ (v : SourceCause). (w.line, v)) (sym same)
       by_doomed (Doomed.astray c y x p q) =
-          let at_line : z ≡ (fresh, state.Stray w.line c) = q ∙ ap (λ (o : Option ℕ). (fresh, state.Stray (unwrap_or o w.line) c)) k.alive in
-          let fault : f ≡ (w.line, percent_cause c (terminals ws)) = stray_fault fresh w.line c ws e f p (sym (ap (λ (v : ScopeView × StatementState). fault_in v.0 v.1 ws e) at_line) ∙ g) in
-          let same : refused_cause k.scope (stands (w ∷ ws) sc st k).place (terminal_of w.kind w.bytes) (terminals ws) ≡ percent_cause c (terminals ws) =
-          ap (λ (v : Terminal). refused_cause k.scope (stands (w ∷ ws) sc st k).place v (terminals ws)) y ∙ (stands (w ∷ ws) sc st k).suits.percent w.line (terminals ws) c x in
+          let at_line : z ≡ (fresh, state.Stray w.line c) =
+          q ∙ ap (λ (o : Option ℕ). (fresh, state.Stray (unwrap_or o w.line) c)) k.alive in
+          let fault : f ≡ (w.line, percent_cause c (terminals ws)) =
+          stray_fault fresh w.line c ws e f p (sym (ap (λ (v : ScopeView × StatementState). fault_in v.0 v.1 ws e) at_line) ∙ g) in
+          let same : refused_cause k.scope (stands (w ∷ ws) sc st k).place (terminal_of w.kind w.bytes) (terminals ws)
+          ≡ percent_cause c (terminals ws) =
+          ap (λ (v : Terminal). refused_cause k.scope (stands (w ∷ ws) sc st k).place v (terminals ws)) y
+          ∙ (stands (w ∷ ws) sc st k).suits.percent w.line (terminals ws) c x in
           fault ∙ ap (λ (v : SourceCause). (w.line, v)) (sym same)
 
   find : (ws : List Word) (sc : ScopeView) (st : StatementState) → Walk all ws sc st → fault_in sc st ws e ≡ Some f → Found all e f
   find [] sc st k h = at_end sc st k e refl h
   find (w ∷ ws) sc st k h = by_result (λ sc2 st2 k2 g. find ws sc2 st2 k2 g) (next_word sc st w) refl h
     where
-      by_doom : Later all e f ws → (z : ScopeView × StatementState) → next_word sc st w ≡ Ok z → fault_in z.0 z.1 ws e ≡ Some f → (d : Option ℕ) → doom z.0 z.1 ≡ d → Found all e f
+      by_doom : Later all e f ws → (z : ScopeView × StatementState) → next_word sc st w ≡ Ok z → fault_in z.0 z.1 ws e ≡ Some f
+          → (d : Option ℕ) → doom z.0 z.1 ≡ d → Found all e f
       by_doom ih z r g None d = ih z.0 z.1 (walk_next all ws w sc st k z r d) g
       by_doom ih z r g (Some l) d = at_doomed w ws sc st z l k r d g
 
-      by_result : Later all e f ws → (r : Answer) → next_word sc st w ≡ r → placed_in (fault_line sc st w.line) ws e r ≡ Some f → Found all e f
+      by_result : Later all e f ws → (r : Answer) → next_word sc st w ≡ r
+          → placed_in (fault_line sc st w.line) ws e r ≡ Some f → Found all e f
       by_result ih (Err c) r g = at_refused w ws sc st c k r g
       by_result ih (Ok z) r g = by_doom ih z r g (doom z.0 z.1) refl
 
 -- Where words have a fault, it is found so.
 pub found_fault : (ws : List Word) (e : Ending) (f : Fault) → AreNamed ws → fault_in fresh state.Start ws e ≡ Some f → Found ws e f
 found_fault ws e f named h =
-    find ws e f named ws fresh state.Start (record { before = []; begun = []; scope = fresh; whole = refl; runs = refl; statements = Statements.none; held = (refl, refl); extra = tt; good = fresh_good Any; alive = refl }) h
+    find ws e f named ws fresh state.Start (record {
+      before = [];
+      begun = [];
+      scope = fresh;
+      whole = refl;
+      runs = refl;
+      statements = Statements.none;
+      held = (refl, refl);
+      extra = tt;
+      good = fresh_good Any;
+      alive = refl;
+    }) h

@@ -34,7 +34,8 @@ err c = Err c
 -- the cause, by how the operand's terminals end
 abbrev pub operand_by : Bool → Bool → Bool → Bool → Terminal → SourceCause
 operand_by percent index minus free terminal.Big = cause.BadNumber
-operand_by percent index minus free (terminal.Number n) = cond percent cause.BadRegister (cond index cause.BadScale (cond minus cause.BadNumber cause.BadOperand))
+operand_by percent index minus free (terminal.Number n) =
+    cond percent cause.BadRegister (cond index cause.BadScale (cond minus cause.BadNumber cause.BadOperand))
 operand_by percent index minus free (terminal.Name n) = cond percent cause.BadRegister (cond free cause.TooManySymbols cause.BadOperand)
 operand_by percent index minus free s = cond percent cause.BadRegister cause.BadOperand
 
@@ -139,13 +140,17 @@ operand_err (partial.Whole f) terminal.Big c h = same_err _ c h
 operand_err (partial.Whole f) _ c h = same_err _ c h
 
 -- where a name may stand, one that may not be said is one too many
-pub operand_name : (p : Partial) (m n : List ℕ) (q : Partial) → (p ≡ partial.Absent → ⊥) → next_terminal shape.Operand p (terminal.Name m) ≡ ok q → name_in q ≡ Some n → operand_at p (terminal.Name m) ≡ cause.TooManySymbols
+pub operand_name : (p : Partial) (m n : List ℕ) (q : Partial) → (p ≡ partial.Absent → ⊥) → next_terminal shape.Operand p (terminal.Name m)
+    ≡ ok q → name_in q ≡ Some n → operand_at p (terminal.Name m) ≡ cause.TooManySymbols
 operand_name partial.Nothing m n q never h e = refl
 operand_name partial.Dollar m n q never h e = refl
 operand_name partial.Absent m n q never h e = absurd (never refl)
-operand_name partial.Percent m n q never h e = absurd (unnamed (partial.Whole (form.Register m)) q n refl (registered_ok (is_register m) _ q h).1 e)
-operand_name (partial.BasePercent v) m n q never h e = absurd (unnamed (partial.Base v m) q n refl (registered_ok (is_register m) _ q h).1 e)
-operand_name (partial.IndexPercent v b) m n q never h e = absurd (unnamed (partial.Index v b m) q n refl (registered_ok (is_register m) _ q h).1 e)
+operand_name partial.Percent m n q never h e =
+    absurd (unnamed (partial.Whole (form.Register m)) q n refl (registered_ok (is_register m) _ q h).1 e)
+operand_name (partial.BasePercent v) m n q never h e =
+    absurd (unnamed (partial.Base v m) q n refl (registered_ok (is_register m) _ q h).1 e)
+operand_name (partial.IndexPercent v b) m n q never h e =
+    absurd (unnamed (partial.Index v b m) q n refl (registered_ok (is_register m) _ q h).1 e)
 operand_name _ m n q never h e = absurd cc
 
 -- ---- an argument of a directive
@@ -158,7 +163,8 @@ value_by minus sign terminal.Comma = cond sign cause.BadOperand cause.BadArgumen
 value_by minus sign terminal.End = cond sign cause.BadOperand cause.BadArgument
 value_by minus sign s = cause.BadOperand
 
-pub value_ends : (h : Head) (done : List Argument) (sc : ScopeView) (ss : List Terminal) (a b c d e : Bool) → (ss ≡ [] → ⊥) → Tail ss a b c d e → (s : Terminal) → value_cause h done sc ss s ≡ value_by c d s
+pub value_ends : (h : Head) (done : List Argument) (sc : ScopeView) (ss : List Terminal) (a b c d e : Bool) → (ss ≡ [] → ⊥)
+    → Tail ss a b c d e → (s : Terminal) → value_cause h done sc ss s ≡ value_by c d s
 value_ends h done sc [] a b c d e never t s = absurd (never refl)
 value_ends h done sc (x ∷ xs) a b c d e never t (terminal.Number n) = rw t.minus_is refl
 value_ends h done sc (x ∷ xs) a b c d e never t terminal.Comma = rw t.sign_is refl
@@ -183,16 +189,19 @@ of_err nothing other a c h = ap (argument_cause nothing other) (same_err a c h)
 cause_is : (other a c d : SourceCause) → err a ≡ err c → argument_cause false other a ≡ d → argument_cause false other c ≡ d
 cause_is other a c d h e = sym (of_err false other a c h) ∙ e
 
-allowed_err : (t : Bool) (q : Partial) (other c d : SourceCause) → allowed t q ≡ err c → cause.BadOperand ≡ d → argument_cause false other c ≡ d
+allowed_err : (t : Bool) (q : Partial) (other c d : SourceCause) → allowed t q ≡ err c → cause.BadOperand ≡ d
+    → argument_cause false other c ≡ d
 allowed_err true q other c d h e = absurd cc
 allowed_err false q other c d h e = cause_is other cause.BadOperand c d h e
 
-lowered_err : (low fit : Bool) (q : Partial) (other c : SourceCause) → cond low (counted true fit q) (Err cause.BadNumber) ≡ err c → argument_cause false other c ≡ cond low cause.BadArgument cause.BadNumber
+lowered_err : (low fit : Bool) (q : Partial) (other c : SourceCause) → cond low (counted true fit q) (Err cause.BadNumber) ≡ err c
+    → argument_cause false other c ≡ cond low cause.BadArgument cause.BadNumber
 lowered_err true true q other c h = absurd cc
 lowered_err true false q other c h = cause_is other cause.BadArgument c cause.BadArgument h refl
 lowered_err false fit q other c h = cause_is other cause.BadNumber c cause.BadNumber h refl
 
-pub value_err : (sh : Shape) (p : Partial) (ss : List Terminal) (s : Terminal) (other c : SourceCause) → is_operand sh ≡ false → is_unbegun p ≡ false → Spelled sh p ss → (is_cut s ≡ true → is_finished p ≡ false) → operand_step sh p s ≡ err c
+pub value_err : (sh : Shape) (p : Partial) (ss : List Terminal) (s : Terminal) (other c : SourceCause) → is_operand sh ≡ false
+    → is_unbegun p ≡ false → Spelled sh p ss → (is_cut s ≡ true → is_finished p ≡ false) → operand_step sh p s ≡ err c
     → argument_cause false other c ≡ value_at p s
 value_err sh partial.Nothing ss s other c n u sp cut h = absurd cc
 value_err sh partial.Absent ss s other c n u sp cut h = absurd cc
@@ -241,7 +250,8 @@ abbrev pub value_first : Bool → ScopeView → Bool → Terminal → SourceCaus
 value_first takes sc def (terminal.Name n) = cond takes (name_cause sc def n) cause.BadArgument
 value_first takes sc def s = misplaced s
 
-pub value_none : (h : Head) (done : List Argument) (sc : ScopeView) (s : Terminal) → value_cause h done sc [] s ≡ value_first (takes_name (shape_at h (length done))) sc (defines h (length done)) s
+pub value_none : (h : Head) (done : List Argument) (sc : ScopeView) (s : Terminal)
+    → value_cause h done sc [] s ≡ value_first (takes_name (shape_at h (length done))) sc (defines h (length done)) s
 value_none h done sc (terminal.Name n) = refl
 value_none h done sc _ = refl
 
@@ -252,16 +262,19 @@ first_allowed : (t : Bool) (q : Partial) (other c d : SourceCause) → allowed t
 first_allowed true q other c d h e = absurd cc
 first_allowed false q other c d h e = first_cause other cause.BadOperand c d h e
 
-first_counted : (t u : Bool) (q : Partial) (c : SourceCause) → counted t u q ≡ err c → argument_cause true cause.BadArgument c ≡ cause.BadArgument
+first_counted : (t u : Bool) (q : Partial) (c : SourceCause) → counted t u q ≡ err c
+    → argument_cause true cause.BadArgument c ≡ cause.BadArgument
 first_counted true true q c h = absurd cc
 first_counted true false q c h = first_cause cause.BadArgument cause.BadArgument c cause.BadArgument h refl
 first_counted false u q c h = first_cause cause.BadArgument cause.BadOperand c cause.BadArgument h refl
 
-first_named : (t : Bool) (q : Partial) (sc : ScopeView) (def : Bool) (n : List ℕ) (c : SourceCause) → allowed t q ≡ err c → argument_cause true cause.BadArgument c ≡ cond t (name_cause sc def n) cause.BadArgument
+first_named : (t : Bool) (q : Partial) (sc : ScopeView) (def : Bool) (n : List ℕ) (c : SourceCause) → allowed t q ≡ err c
+    → argument_cause true cause.BadArgument c ≡ cond t (name_cause sc def n) cause.BadArgument
 first_named true q sc def n c h = absurd cc
 first_named false q sc def n c h = first_cause cause.BadArgument cause.BadOperand c cause.BadArgument h refl
 
-first_err : (sh : Shape) (sc : ScopeView) (def : Bool) (s : Terminal) (c : SourceCause) → first sh s ≡ err c → argument_cause true (misplaced s) c ≡ value_first (takes_names sh) sc def s
+first_err : (sh : Shape) (sc : ScopeView) (def : Bool) (s : Terminal) (c : SourceCause) → first sh s ≡ err c
+    → argument_cause true (misplaced s) c ≡ value_first (takes_names sh) sc def s
 first_err sh sc def terminal.Percent c h = first_allowed (is_operand sh) _ _ c _ h refl
 first_err sh sc def terminal.Dollar c h = first_allowed (is_operand sh) _ _ c _ h refl
 first_err sh sc def terminal.Open c h = first_allowed (is_operand sh) _ _ c _ h refl
@@ -272,7 +285,8 @@ first_err sh sc def (terminal.Text t) c h = first_allowed (takes_text sh) _ _ c 
 first_err sh sc def terminal.Big c h = first_cause _ _ c _ h refl
 first_err sh sc def _ c h = first_cause _ _ c _ h refl
 
-pub unbegun_err : (sh : Shape) (p : Partial) (sc : ScopeView) (def : Bool) (s : Terminal) (c : SourceCause) → is_unbegun p ≡ true → operand_step sh p s ≡ err c → argument_cause true (misplaced s) c ≡ value_first (takes_names sh) sc def s
+pub unbegun_err : (sh : Shape) (p : Partial) (sc : ScopeView) (def : Bool) (s : Terminal) (c : SourceCause) → is_unbegun p ≡ true
+    → operand_step sh p s ≡ err c → argument_cause true (misplaced s) c ≡ value_first (takes_names sh) sc def s
 unbegun_err sh partial.Nothing sc def terminal.Big c u h = first_cause _ cause.BadNumber c _ h refl
 unbegun_err sh partial.Nothing sc def s c u h = first_err sh sc def s c h
 unbegun_err sh partial.Absent sc def terminal.Big c u h = first_cause _ cause.BadNumber c _ h refl
@@ -288,7 +302,11 @@ missing_is _ takes sc def e = refl
 pub noting_cause : (sc : ScopeView) (def : Bool) (n : List ℕ) (c : SourceCause) → noting sc def n ≡ Err c → name_cause sc def n ≡ c
 noting_cause sc def n c h = by_tests (def && holds sc.defined n) (has_room sc n) def h
   where
-    by_tests : (t u d : Bool) → ◌≡◌ {A = Result ScopeView SourceCause} (cond t (Err cause.DoubledLabel) (cond (not u) (Err cause.TooManySymbols) (cond d (Ok (defined_too (noted sc n) n)) (Ok (noted sc n))))) (Err c) → cond t cause.DoubledLabel cause.TooManySymbols ≡ c
+    by_tests : (t u d : Bool)
+        → ◌≡◌ {A = Result ScopeView SourceCause}
+        (cond t (Err cause.DoubledLabel)
+        (cond (not u) (Err cause.TooManySymbols) (cond d (Ok (defined_too (noted sc n) n)) (Ok (noted sc n))))) (Err c)
+        → cond t cause.DoubledLabel cause.TooManySymbols ≡ c
     by_tests true u d h = cc
     by_tests false false d h = cc
     by_tests false true true h = absurd cc

@@ -67,7 +67,8 @@ added_each P ns n h p = by_test (holds ns n)
     by_test true = h
     by_test false = each_end P ns n h p
 
-pub added_few : (ns : List (List ℕ)) (n : List ℕ) → (holds ns n || nat_lt (length ns) 65536) ≡ true → length ns ≤ 65536 → length (added ns n) ≤ 65536
+pub added_few : (ns : List (List ℕ)) (n : List ℕ) → (holds ns n || nat_lt (length ns) 65536) ≡ true → length ns ≤ 65536
+    → length (added ns n) ≤ 65536
 added_few ns n room few = by_test (holds ns n) room
   where
     by_test : (t : Bool) → (t || nat_lt (length ns) 65536) ≡ true → length (cond t ns (ns ++ n ∷ [])) ≤ 65536
@@ -78,7 +79,8 @@ pub same_holds : (ns : List (List ℕ)) (q n : List ℕ) → bytes_eq q n ≡ tr
 same_holds [] q n e = refl
 same_holds (m ∷ ns) q n e = rw (nat_list_eq_equiv.congr q n m e, same_holds ns q n e) refl
 
-noted_good : (P : List ℕ → Type 0) (sc : ScopeView) (n : List ℕ) → has_room sc n ≡ true → P n → GoodIn P sc → Good P (added sc.names n) sc.defined
+noted_good : (P : List ℕ → Type 0) (sc : ScopeView) (n : List ℕ) → has_room sc n ≡ true → P n → GoodIn P sc
+    → Good P (added sc.names n) sc.defined
 noted_good P sc n room p g = record {
   few = added_few sc.names n room g.few;
   apart = added_apart sc.names n g.apart;
@@ -116,17 +118,23 @@ spent_many sc h = by_test (nat_lt (length sc.defined) 65536) refl h
 defined_few : (P : List ℕ → Type 0) (sc : ScopeView) → GoodIn P sc → length sc.defined ≤ length sc.names
 defined_few P sc g = length-le_from_is_member nat_list_eq_equiv sc.defined sc.names g.defined_apart g.within
 
-one_more : (P : List ℕ → Type 0) (sc : ScopeView) (n : List ℕ) → GoodIn P sc → holds sc.defined n ≡ false → holds sc.names n ≡ true → length sc.defined + 1 ≤ length sc.names
+one_more : (P : List ℕ → Type 0) (sc : ScopeView) (n : List ℕ) → GoodIn P sc → holds sc.defined n ≡ false → holds sc.names n ≡ true
+    → length sc.defined + 1 ≤ length sc.names
 one_more P sc n g new known =
     let apart : IsDistinct bytes_eq (sc.defined ++ n ∷ []) = IsDistinct-push nat_list_eq_equiv sc.defined n g.defined_apart new in
-    omega (arith, length-le_from_is_member nat_list_eq_equiv (sc.defined ++ n ∷ []) sc.names apart in_names, length-append sc.defined (n ∷ []))
+    omega (
+      arith,
+      length-le_from_is_member nat_list_eq_equiv (sc.defined ++ n ∷ []) sc.names apart in_names,
+      length-append sc.defined (n ∷ []),
+    )
   where
     or_cases : (a b : Bool) → (a || (b || false)) ≡ true → a ≡ false → b ≡ true
     or_cases true b h e = absurd cc
     or_cases false true h e = refl
     or_cases false false h e = absurd cc
 
-    by_test : (q : List ℕ) → (holds sc.defined q || (bytes_eq q n || false)) ≡ true → (t : Bool) → holds sc.defined q ≡ t → holds sc.names q ≡ true
+    by_test : (q : List ℕ) → (holds sc.defined q || (bytes_eq q n || false)) ≡ true → (t : Bool) → holds sc.defined q ≡ t
+        → holds sc.names q ≡ true
     by_test q h true e = g.within q e
     by_test q h false e = same_holds sc.names q n (or_cases (holds sc.defined q) (bytes_eq q n) h e) ∙ known
 
@@ -134,7 +142,8 @@ one_more P sc n g new known =
     in_names q h = by_test q (sym (list_any-append (λ (m : List ℕ). bytes_eq q m) sc.defined (n ∷ [])) ∙ h) (holds sc.defined q) refl
 
 -- Where all are defined no name can be defined.
-pub spent_noting : (P : List ℕ → Type 0) (sc : ScopeView) (n : List ℕ) → GoodIn P sc → is_spent sc ≡ true → (c : SourceCause) × (noting sc true n ≡ Err c)
+pub spent_noting : (P : List ℕ → Type 0) (sc : ScopeView) (n : List ℕ) → GoodIn P sc → is_spent sc ≡ true → (c : SourceCause)
+    × (noting sc true n ≡ Err c)
 spent_noting P sc n g spent = by_tests (holds sc.defined n) (has_room sc n) refl refl
   where
     no_room : (t : Bool) → holds sc.defined n ≡ false → holds sc.names n ≡ t → (t || nat_lt (length sc.names) 65536) ≡ true → ⊥

@@ -45,7 +45,8 @@ value_pays (IsValue.name t) = (omega arith, omega arith)
 value_pays (IsValue.sum t u c) = (omega arith, omega arith)
 value_pays (IsValue.difference t u c) = (omega arith, omega arith)
 
-address_pays : {ss : List Terminal} {b i : Option (List ℕ)} {s : ℕ} → IsAddress ss b i s → (name_size b + name_size i ≤ costs ss) × (1 ≤ length ss)
+address_pays : {ss : List Terminal} {b i : Option (List ℕ)} {s : ℕ} → IsAddress ss b i s
+    → (name_size b + name_size i ≤ costs ss) × (1 ≤ length ss)
 address_pays (IsAddress.base r) = (omega arith, omega arith)
 address_pays (IsAddress.index r) = (omega arith, omega arith)
 address_pays (IsAddress.scaled r t) = (omega arith, omega arith)
@@ -66,7 +67,10 @@ form_pays (IsForm.address h a) = let p = address_pays a in record { size = omega
 form_pays (IsForm.value_address vs ps h e v a) =
     let p = value_pays v in
     let q = address_pays a in
-    record { size = omega (arith, ap costs e, costs-append vs ps, p.0, q.0); some = inr (omega (arith, ap length e, length-append vs ps, p.1)) }
+    record {
+      size = omega (arith, ap costs e, costs-append vs ps, p.0, q.0);
+      some = inr (omega (arith, ap length e, length-append vs ps, p.1));
+    }
 
 argument_pays : {sh : Shape} {ss : List Terminal} {a : Argument} → IsArgument sh ss a → FormPays sh ss a.form
 argument_pays (IsArgument.plain f) = form_pays f
@@ -96,24 +100,46 @@ record SeparatedPays (h : Head) (sc sc2 : ScopeView) (ss : List Terminal) (args 
   count : (args ≡ []) ⊎ (length args + 1 ≤ length ss)
   same : sc2.items ≡ sc.items
 
-separated_pays : {h : Head} {sc sc2 : ScopeView} {ss : List Terminal} {args : List Argument} → Separated h sc ss args sc2 → SeparatedPays h sc sc2 ss args
+separated_pays : {h : Head} {sc sc2 : ScopeView} {ss : List Terminal} {args : List Argument} → Separated h sc ss args sc2
+    → SeparatedPays h sc sc2 ss args
 separated_pays Separated.none = record { size = omega arith; count = inl refl; same = refl }
 separated_pays {h} (Separated.more {ss} {ts} {before} {a} {sc1} {sc2} sep next) =
     let p = separated_pays sep in
     let q = argument_pays next.is in
     record {
-      size = omega (arith, size-append before (a ∷ []), costs-append ss (ts ++ terminal.Comma ∷ []), costs-append ts (terminal.Comma ∷ []), p.size, q.size);
+      size = omega (
+        arith,
+        size-append before (a ∷ []),
+        costs-append ss (ts ++ terminal.Comma ∷ []),
+        costs-append ts (terminal.Comma ∷ []),
+        p.size,
+        q.size,
+      );
       count = inr (elim p.count [
         | inl e ↦
             let may : shape_at h 0 ≡ Some next.shape = ap (λ (x : List Argument). shape_at h (length x)) (sym e) ∙ next.may in
             let one = first_some h next.shape (length ts) may q.some in
-            omega (arith, one, ap length e, length-append before (a ∷ []), length-append ss (ts ++ terminal.Comma ∷ []), length-append ts (terminal.Comma ∷ []))
-        | inr le ↦ omega (arith, le, length-append before (a ∷ []), length-append ss (ts ++ terminal.Comma ∷ []), length-append ts (terminal.Comma ∷ []))
+            omega (
+              arith,
+              one,
+              ap length e,
+              length-append before (a ∷ []),
+              length-append ss (ts ++ terminal.Comma ∷ []),
+              length-append ts (terminal.Comma ∷ []),
+            )
+        | inr le ↦ omega (
+          arith,
+          le,
+          length-append before (a ∷ []),
+          length-append ss (ts ++ terminal.Comma ∷ []),
+          length-append ts (terminal.Comma ∷ []),
+        )
       ]);
       same = sees_items sc1 sc2 _ _ next.sees ∙ p.same;
     }
 
-arguments_pay : {h : Head} {sc sc2 : ScopeView} {ss : List Terminal} {args : List Argument} → HasArguments h sc ss args sc2 → ListPays h sc sc2 ss args
+arguments_pay : {h : Head} {sc sc2 : ScopeView} {ss : List Terminal} {args : List Argument} → HasArguments h sc ss args sc2
+    → ListPays h sc sc2 ss args
 arguments_pay HasArguments.none = record { size = omega arith; count = omega arith; same = refl }
 arguments_pay {h} (HasArguments.some {ss} {ts} {before} {a} {sc1} {sc2} sep next) =
     let p = separated_pays sep in
@@ -132,7 +158,8 @@ arguments_pay {h} (HasArguments.some {ss} {ts} {before} {a} {sc1} {sc2} sep next
 
 -- ---- statements
 
-items_end : (xs : List SourceItem) (x : SourceItem) → (items_size (xs ++ x ∷ []) ≡ items_size xs + body_size x.body) × (items_count (xs ++ x ∷ []) ≡ items_count xs + body_count x.body)
+items_end : (xs : List SourceItem) (x : SourceItem) → (items_size (xs ++ x ∷ []) ≡ items_size xs + body_size x.body)
+    × (items_count (xs ++ x ∷ []) ≡ items_count xs + body_count x.body)
 items_end [] x = (omega arith, omega arith)
 items_end (y ∷ xs) x = let p = items_end xs x in (omega (arith, p.0), omega (arith, p.1))
 
@@ -141,28 +168,34 @@ pub record StatementPays (sc sc2 : ScopeView) (ss : List Terminal) : Type 0 wher
   pub count : items_count sc2.items + 1 ≤ items_count sc.items + length ss
 
 -- an item after those of a scope that has the same
-pushed_pays : (sc sc1 sc2 : ScopeView) (x : SourceItem) (ss : List Terminal) → sc1.items ≡ sc.items → sc2.items ≡ sc1.items ++ x ∷ [] → body_size x.body + 1 ≤ costs ss → body_count x.body + 1 ≤ length ss → StatementPays sc sc2 ss
+pushed_pays : (sc sc1 sc2 : ScopeView) (x : SourceItem) (ss : List Terminal) → sc1.items ≡ sc.items → sc2.items ≡ sc1.items ++ x ∷ []
+    → body_size x.body + 1 ≤ costs ss → body_count x.body + 1 ≤ length ss → StatementPays sc sc2 ss
 pushed_pays sc sc1 sc2 x ss same new size count =
     let e : sc2.items ≡ sc.items ++ x ∷ [] = new ∙ ap (λ (xs : List SourceItem). xs ++ x ∷ []) same in
     let p = items_end sc.items x in
     record { size = omega (arith, ap items_size e, p.0, size); count = omega (arith, ap items_count e, p.1, count) }
 
 same_pays : (sc : ScopeView) (s : Terminal) (ss : List Terminal) → StatementPays sc sc (s ∷ (ss ++ terminal.End ∷ []))
-same_pays sc s ss = record { size = omega (arith, costs-append ss (terminal.End ∷ [])); count = omega (arith, length-append ss (terminal.End ∷ [])) }
+same_pays sc s ss =
+    record { size = omega (arith, costs-append ss (terminal.End ∷ [])); count = omega (arith, length-append ss (terminal.End ∷ [])) }
 
 statement_pays : {sc sc2 : ScopeView} {line : ℕ} {ss : List Terminal} → Statement sc line ss sc2 → StatementPays sc sc2 ss
 statement_pays Statement.empty = record { size = omega arith; count = omega arith }
 statement_pays {sc} {line} (Statement.label {sc2} {n} sk seen) =
-    pushed_pays sc sc2 _ (record { line = line; body = body.Label n }) (terminal.Name n ∷ terminal.Colon ∷ []) (sees_items sc sc2 true (Some n) seen) refl (omega arith) (omega arith)
+    pushed_pays sc sc2 _ (record { line = line; body = body.Label n }) (terminal.Name n ∷ terminal.Colon ∷ [])
+    (sees_items sc sc2 true (Some n) seen) refl (omega arith) (omega arith)
 statement_pays {sc} {line} (Statement.instruction {sc2} {n} {ss} {args} passed dotted rep has) =
     let p = arguments_pay has in
-    pushed_pays sc sc2 _ (item_of line (head.Instruction false n) args) (terminal.Name n ∷ (ss ++ terminal.End ∷ [])) p.same refl (omega (arith, p.size, costs-append ss (terminal.End ∷ []))) (omega (arith, p.count, length-append ss (terminal.End ∷ [])))
+    pushed_pays sc sc2 _ (item_of line (head.Instruction false n) args) (terminal.Name n ∷ (ss ++ terminal.End ∷ [])) p.same refl
+    (omega (arith, p.size, costs-append ss (terminal.End ∷ []))) (omega (arith, p.count, length-append ss (terminal.End ∷ [])))
 statement_pays {sc} {line} (Statement.repeated {sc2} {r} {n} {ss} {args} passed dotted rep has) =
     let p = arguments_pay has in
-    pushed_pays sc sc2 _ (item_of line (head.Instruction true n) args) (terminal.Name r ∷ terminal.Name n ∷ (ss ++ terminal.End ∷ [])) p.same refl (omega (arith, p.size, costs-append ss (terminal.End ∷ []))) (omega (arith, p.count, length-append ss (terminal.End ∷ [])))
+    pushed_pays sc sc2 _ (item_of line (head.Instruction true n) args) (terminal.Name r ∷ terminal.Name n ∷ (ss ++ terminal.End ∷ []))
+    p.same refl (omega (arith, p.size, costs-append ss (terminal.End ∷ []))) (omega (arith, p.count, length-append ss (terminal.End ∷ [])))
 statement_pays {sc} {line} (Statement.directive {sc2} {n} {k} {ss} {args} passed dotted dir list has count) =
     let p = arguments_pay has in
-    pushed_pays sc sc2 _ (item_of line (head.Directive k n) args) (terminal.Name n ∷ (ss ++ terminal.End ∷ [])) p.same (resumed_items (pushed sc2 (item_of line (head.Directive k n) args)) (head.Directive k n))
+    pushed_pays sc sc2 _ (item_of line (head.Directive k n) args) (terminal.Name n ∷ (ss ++ terminal.End ∷ [])) p.same
+    (resumed_items (pushed sc2 (item_of line (head.Directive k n) args)) (head.Directive k n))
     (omega (arith, p.size, costs-append ss (terminal.End ∷ []))) (omega (arith, p.count, length-append ss (terminal.End ∷ [])))
 statement_pays {sc} (Statement.skipped_directive {n} ss passed dotted dir u h) = same_pays sc (terminal.Name n) ss
 statement_pays {sc} (Statement.skipped_label {n} sk) = record { size = omega arith; count = omega arith }
@@ -195,13 +228,19 @@ record PiecePays (sc sc2 : ScopeView) (ws : List Word) : Type 0 where
   size : items_size sc2.items + 1 ≤ items_size sc.items + weight ws
   count : items_count sc2.items + 1 ≤ items_count sc.items + length ws
 
-section_pays : (sc : ScopeView) (w v : Word) (parts rest : List Word) (n m : List ℕ) (ss : List Terminal) → terminal_of w.kind w.bytes ≡ terminal.Name n → terminal_of v.kind v.bytes ≡ terminal.Name m → terminals rest ≡ ss ++ terminal.End ∷ []
+section_pays : (sc : ScopeView) (w v : Word) (parts rest : List Word) (n m : List ℕ) (ss : List Terminal)
+    → terminal_of w.kind w.bytes ≡ terminal.Name n → terminal_of v.kind v.bytes ≡ terminal.Name m → terminals rest ≡ ss ++ terminal.End ∷ []
     → ArePaid (w ∷ v ∷ (parts ++ rest)) → PiecePays sc (sectioned sc w.line n (m ++ text_of parts)) (w ∷ v ∷ (parts ++ rest))
 section_pays sc w v parts rest n m ss wn vm end paid =
-    let p = items_end sc.items (record { line = w.line; body = body.Directive n (record { star = false; form = form.Text (m ++ text_of parts) } ∷ []) }) in
+    let p =
+    items_end sc.items (record {
+      line = w.line;
+      body = body.Directive n (record { star = false; form = form.Text (m ++ text_of parts) } ∷ []);
+    }) in
     let first : length n ≤ length w.bytes = omega (arith, paid.0, ap cost wn) in
     let second : length m ≤ length v.bytes = omega (arith, paid.1.0, ap cost vm) in
-    let last : 1 ≤ weight rest = omega (arith, paid_costs rest (paid_back parts rest paid.1.1), ap costs end, costs-append ss (terminal.End ∷ [])) in
+    let last : 1 ≤ weight rest =
+    omega (arith, paid_costs rest (paid_back parts rest paid.1.1), ap costs end, costs-append ss (terminal.End ∷ [])) in
     let some : 1 ≤ length rest = omega (arith, terminals-length rest, ap length end, length-append ss (terminal.End ∷ [])) in
     record {
       size = omega (arith, p.0, first, second, last, length-append m (text_of parts), length-text_of parts, weight-append parts rest);
@@ -212,7 +251,8 @@ piece_pays : {sc sc2 : ScopeView} {ws : List Word} → IsStatement sc ws sc2 →
 piece_pays (IsStatement.plain w ws st) paid =
     let p = statement_pays st in
     record { size = omega (arith, p.size, paid_costs (w ∷ ws) paid); count = omega (arith, p.count, terminals-length (w ∷ ws)) }
-piece_pays {sc} (IsStatement.section {n} {m} w v parts rest ss wn passed dotted dir vm is touch end flags) paid = section_pays sc w v parts rest n m ss wn vm end paid
+piece_pays {sc} (IsStatement.section {n} {m} w v parts rest ss wn passed dotted dir vm is touch end flags) paid =
+    section_pays sc w v parts rest n m ss wn vm end paid
 
 -- with one to spare where there is a statement
 record SourcePays (sc sc2 : ScopeView) (ws : List Word) : Type 0 where
@@ -233,18 +273,29 @@ statements_pay {ws} (Statements.more piece rest e st tail) paid =
     }
 
 -- All names and strings are no longer than the text, and items and arguments no more than its bytes.
-pub source_pays : (text : List ℕ) (items : List SourceItem) → Says text items → (items_size items ≤ length text) × (items_count items ≤ length text)
+pub source_pays : (text : List ℕ) (items : List SourceItem) → Says text items → (items_size items ≤ length text)
+    × (items_count items ≤ length text)
 source_pays text items (ws, sc, lexed, statements, is) =
     let l = lexed_pays lexed in
     let p = statements_pay statements l.each in (
-      elim p.size [ inl e ↦ omega (arith, ap items_size (sym is ∙ e)) | inr le ↦ omega (arith, le, ap items_size is, l.bytes, length-append text (10 ∷ [])) ],
-      elim p.count [ inl e ↦ omega (arith, ap items_count (sym is ∙ e)) | inr le ↦ omega (arith, le, ap items_count is, l.count, length-append text (10 ∷ [])) ],
+      elim p.size [
+        | inl e ↦ omega (arith, ap items_size (sym is ∙ e))
+        | inr le ↦
+            omega (arith, le, ap items_size is, l.bytes, length-append text (10 ∷ []))
+      ],
+      elim p.count [
+        | inl e ↦ omega (arith, ap items_count (sym is ∙ e))
+        | inr le ↦
+            omega (arith, le, ap items_count is, l.count, length-append text (10 ∷ []))
+      ],
     )
 
-pub parsed_size : (text : List ℕ) (x : Result (List SourceItem) SourceFault) → length text ≤ LIMIT → Parses x (read text) → IfOk x (λ s. items_size s ≤ length text)
+pub parsed_size : (text : List ℕ) (x : Result (List SourceItem) SourceFault) → length text ≤ LIMIT → Parses x (read text)
+    → IfOk x (λ s. items_size s ≤ length text)
 parsed_size text (Ok x) small p = let s = parsed_is text (Ok x) small p in (source_pays text x s.1).0
 parsed_size text (Err e) small p = tt
 
-pub parsed_count : (text : List ℕ) (x : Result (List SourceItem) SourceFault) → length text ≤ LIMIT → Parses x (read text) → IfOk x (λ s. items_count s ≤ length text)
+pub parsed_count : (text : List ℕ) (x : Result (List SourceItem) SourceFault) → length text ≤ LIMIT → Parses x (read text)
+    → IfOk x (λ s. items_count s ≤ length text)
 parsed_count text (Ok x) small p = let s = parsed_is text (Ok x) small p in (source_pays text x s.1).1
 parsed_count text (Err e) small p = tt

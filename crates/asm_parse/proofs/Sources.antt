@@ -39,11 +39,14 @@ read_is text r h =
     let m = closed_between s.0 r s.0.mode (last_mode a.0 s.0 a.2) s.2 in
     let st : r.state ≡ state.Start = ap (λ (x : Running). x.state) (sym m.1) ∙ newline_state a.0 s.0 a.2 m.0 in
     let l = link (text ++ 10 ∷ []) start s.0 s.1 in
-    with_scan (scan mode.Between [] 0 1 (text ++ 10 ∷ [])) refl (l.ending ∙ ap Goes m.0) (l.words ∙ (ap (λ (x : Running). Ok (x.scope, x.state)) m.1 ∙ ap (λ (x : StatementState). Ok (r.scope, x)) st))
+    with_scan (scan mode.Between [] 0 1 (text ++ 10 ∷ [])) refl (l.ending ∙ ap Goes m.0)
+    (l.words ∙ (ap (λ (x : Running). Ok (x.scope, x.state)) m.1 ∙ ap (λ (x : StatementState). Ok (r.scope, x)) st))
   where
-    with_scan : (s : Scan) → scan mode.Between [] 0 1 (text ++ 10 ∷ []) ≡ s → s.ending ≡ Goes mode.Between → read_words fresh state.Start s.words ≡ Ok (r.scope, state.Start) → Says text r.scope.items
+    with_scan : (s : Scan) → scan mode.Between [] 0 1 (text ++ 10 ∷ []) ≡ s → s.ending ≡ Goes mode.Between
+        → read_words fresh state.Start s.words ≡ Ok (r.scope, state.Start) → Says text r.scope.items
     with_scan s e ends words =
-        let whole : scan mode.Between [] 0 1 (text ++ 10 ∷ []) ≡ record { words = s.words; ending = Goes mode.Between } = e ∙ rw (← ends) refl in
+        let whole : scan mode.Between [] 0 1 (text ++ 10 ∷ []) ≡ record { words = s.words; ending = Goes mode.Between } =
+        e ∙ rw (← ends) refl in
         (s.words, r.scope, found (text ++ 10 ∷ []) [] 0 1 s.words refl whole, are_statements s.words fresh r.scope words, refl)
 
 -- What is a source is read.
@@ -51,22 +54,28 @@ pub is_read : (text : List ℕ) (items : List SourceItem) → Says text items �
 unfolding read
 is_read text items (ws, sc, lexed, statements, is) =
     let whole = again lexed [] refl in
-    let u = unlink (text ++ 10 ∷ []) start mode.Between (sc, state.Start) (ap (λ (x : Scan). x.ending) whole) (ap (λ (x : Scan). read_words fresh state.Start x.words) whole ∙ statements_run statements) in
+    let u = unlink (text ++ 10 ∷ []) start mode.Between (sc, state.Start) (ap (λ (x : Scan). x.ending) whole)
+    (ap (λ (x : Scan). read_words fresh state.Start x.words) whole ∙ statements_run statements) in
     (u.last, rw u.runs (closed_ok u.last u.last.mode u.same_mode), ap (λ (x : ScopeView × StatementState). x.0.items) u.same ∙ is)
 
-pub parsed_is : (text : List ℕ) (x : Result (List SourceItem) SourceFault) → length text ≤ LIMIT → Parses x (read text) → IfOk x (λ s. SourceAs text s)
+pub parsed_is : (text : List ℕ) (x : Result (List SourceItem) SourceFault) → length text ≤ LIMIT → Parses x (read text)
+    → IfOk x (λ s. SourceAs text s)
 parsed_is text (Ok x) small (r, e, is) = (small, subst (Says text) is (read_is text r e))
 parsed_is text (Err e) small h = tt
 
-pub are_parsed : (text : List ℕ) (x : Result (List SourceItem) SourceFault) → Parses x (read text) → (items : List SourceItem) → SourceAs text items → ReadsAs items x
+pub are_parsed : (text : List ℕ) (x : Result (List SourceItem) SourceFault) → Parses x (read text) → (items : List SourceItem)
+    → SourceAs text items → ReadsAs items x
 are_parsed text x p items (small, s) = let g = is_read text items s in by_result x g.0 g.1 g.2 p
   where
-    by_result : (x : Result (List SourceItem) SourceFault) (r : Running) → read text ≡ Ok r → r.scope.items ≡ items → Parses x (read text) → ReadsAs items x
-    by_result (Ok x) r e is (q, f, same) = let g : q ≡ r = ok_same q r (sym f ∙ e) in sym same ∙ (ap (λ (z : Running). z.scope.items) g ∙ is)
+    by_result : (x : Result (List SourceItem) SourceFault) (r : Running) → read text ≡ Ok r → r.scope.items ≡ items
+        → Parses x (read text) → ReadsAs items x
+    by_result (Ok x) r e is (q, f, same) = let g : q ≡ r =
+        ok_same q r (sym f ∙ e) in sym same ∙ (ap (λ (z : Running). z.scope.items) g ∙ is)
     by_result (Err fault.Memory) r e is p = tt
     by_result (Err (fault.At l c)) r e is p = not_both (sym p ∙ e)
 
-pub none_parsed : (text : List ℕ) → LIMIT < length text → (items : List SourceItem) → SourceAs text items → ReadsAs items (Err (fault.At 1 cause.TooLong))
+pub none_parsed : (text : List ℕ) → LIMIT < length text → (items : List SourceItem) → SourceAs text items
+    → ReadsAs items (Err (fault.At 1 cause.TooLong))
 none_parsed text long items (small, s) = absurd (omega arith)
 
 pub refused_line : (text : List ℕ) (r : Result (List SourceItem) SourceFault) → Parses r (read text) → DeadAt text r
@@ -81,5 +90,7 @@ refused_alive text (Ok x) h = tt
 refused_alive text (Err fault.Memory) h = tt
 refused_alive text (Err (fault.At l c)) h = λ other n lt. further n (alive_line text (l, c) h other n lt)
   where
-    further : (n : ℕ) → (s : Running) × (run start (first_lines n text) ≡ Ok s) × (doom s.scope s.state ≡ None) × IsClosed (Goes s.mode) → GoesOn text n
-    further n (s, e, d, k) = let g = closed_goes_on (first_lines n text) s e k d in (g.0, (g.1.0.scope.items, read_is (first_lines n text ++ g.0) g.1.0 g.1.1))
+    further : (n : ℕ) → (s : Running) × (run start (first_lines n text) ≡ Ok s) × (doom s.scope s.state ≡ None)
+        × IsClosed (Goes s.mode) → GoesOn text n
+    further n (s, e, d, k) = let g =
+        closed_goes_on (first_lines n text) s e k d in (g.0, (g.1.0.scope.items, read_is (first_lines n text ++ g.0) g.1.0 g.1.1))

@@ -82,7 +82,8 @@ pub record Tail (ss : List Terminal) (percent index minus sign free : Bool) : Ty
   pub sign_is : is_sign (last_of ss) ≡ sign
   pub free_is : is_for_terminal (last_of ss) ≡ free
 
-behind : (f : List Terminal) (p : Terminal) (ps : List Terminal) (a b c d e : Bool) → Clear f → Tail (p ∷ ps) a b c d e → Tail (f ++ (p ∷ ps)) a b c d e
+behind : (f : List Terminal) (p : Terminal) (ps : List Terminal) (a b c d e : Bool) → Clear f → Tail (p ∷ ps) a b c d e
+    → Tail (f ++ (p ∷ ps)) a b c d e
 behind f p ps a b c d e k t = record {
   percent_is = ap is_percent (k.last p ps) ∙ t.percent_is;
   index_is = k.index p ps ∙ t.index_is;
@@ -102,20 +103,80 @@ after : (f ss : List Terminal) (a b c d e : Bool) → Clear f → Ends ss a b c 
 after f ss a b c d e k n = subst (λ (x : List Terminal). Tail (f ++ x) a b c d e) (sym n.whole) (behind f n.first n.rest a b c d e k n.tail)
 
 value_ends : {sh : Shape} {vs : List Terminal} {v : Value} → IsValue sh vs v → Ends vs false false false false false
-value_ends (IsValue.number t u) = record { first = _; rest = _; whole = refl; tail = record { percent_is = refl; index_is = refl; minus_is = refl; sign_is = refl; free_is = refl } }
-value_ends (IsValue.negative t u x) = record { first = _; rest = _; whole = refl; tail = record { percent_is = refl; index_is = refl; minus_is = refl; sign_is = refl; free_is = refl } }
-value_ends (IsValue.name t) = record { first = _; rest = _; whole = refl; tail = record { percent_is = refl; index_is = refl; minus_is = refl; sign_is = refl; free_is = refl } }
-value_ends (IsValue.sum t u IsConstant.bare) = record { first = _; rest = _; whole = refl; tail = record { percent_is = refl; index_is = refl; minus_is = refl; sign_is = refl; free_is = refl } }
-value_ends (IsValue.sum t u (IsConstant.minus x)) = record { first = _; rest = _; whole = refl; tail = record { percent_is = refl; index_is = refl; minus_is = refl; sign_is = refl; free_is = refl } }
-value_ends (IsValue.difference t u IsConstant.bare) = record { first = _; rest = _; whole = refl; tail = record { percent_is = refl; index_is = refl; minus_is = refl; sign_is = refl; free_is = refl } }
-value_ends (IsValue.difference t u (IsConstant.minus x)) = record { first = _; rest = _; whole = refl; tail = record { percent_is = refl; index_is = refl; minus_is = refl; sign_is = refl; free_is = refl } }
+value_ends (IsValue.number t u) = record {
+  first = _;
+  rest = _;
+  whole = refl;
+  tail = record { percent_is = refl; index_is = refl; minus_is = refl; sign_is = refl; free_is = refl };
+}
+value_ends (IsValue.negative t u x) = record {
+  first = _;
+  rest = _;
+  whole = refl;
+  tail = record { percent_is = refl; index_is = refl; minus_is = refl; sign_is = refl; free_is = refl };
+}
+value_ends (IsValue.name t) = record {
+  first = _;
+  rest = _;
+  whole = refl;
+  tail = record { percent_is = refl; index_is = refl; minus_is = refl; sign_is = refl; free_is = refl };
+}
+value_ends (IsValue.sum t u IsConstant.bare) = record {
+  first = _;
+  rest = _;
+  whole = refl;
+  tail = record { percent_is = refl; index_is = refl; minus_is = refl; sign_is = refl; free_is = refl };
+}
+value_ends (IsValue.sum t u (IsConstant.minus x)) = record {
+  first = _;
+  rest = _;
+  whole = refl;
+  tail = record { percent_is = refl; index_is = refl; minus_is = refl; sign_is = refl; free_is = refl };
+}
+value_ends (IsValue.difference t u IsConstant.bare) = record {
+  first = _;
+  rest = _;
+  whole = refl;
+  tail = record { percent_is = refl; index_is = refl; minus_is = refl; sign_is = refl; free_is = refl };
+}
+value_ends (IsValue.difference t u (IsConstant.minus x)) = record {
+  first = _;
+  rest = _;
+  whole = refl;
+  tail = record { percent_is = refl; index_is = refl; minus_is = refl; sign_is = refl; free_is = refl };
+}
 
 address_ends : {ss : List Terminal} {b i : Option (List ℕ)} {s : ℕ} → IsAddress ss b i s → Ends ss false false false false false
-address_ends (IsAddress.base r) = record { first = _; rest = _; whole = refl; tail = record { percent_is = refl; index_is = refl; minus_is = refl; sign_is = refl; free_is = refl } }
-address_ends (IsAddress.index r) = record { first = _; rest = _; whole = refl; tail = record { percent_is = refl; index_is = refl; minus_is = refl; sign_is = refl; free_is = refl } }
-address_ends (IsAddress.scaled r t) = record { first = _; rest = _; whole = refl; tail = record { percent_is = refl; index_is = refl; minus_is = refl; sign_is = refl; free_is = refl } }
-address_ends (IsAddress.base_index r t) = record { first = _; rest = _; whole = refl; tail = record { percent_is = refl; index_is = refl; minus_is = refl; sign_is = refl; free_is = refl } }
-address_ends (IsAddress.base_scaled r t u) = record { first = _; rest = _; whole = refl; tail = record { percent_is = refl; index_is = refl; minus_is = refl; sign_is = refl; free_is = refl } }
+address_ends (IsAddress.base r) = record {
+  first = _;
+  rest = _;
+  whole = refl;
+  tail = record { percent_is = refl; index_is = refl; minus_is = refl; sign_is = refl; free_is = refl };
+}
+address_ends (IsAddress.index r) = record {
+  first = _;
+  rest = _;
+  whole = refl;
+  tail = record { percent_is = refl; index_is = refl; minus_is = refl; sign_is = refl; free_is = refl };
+}
+address_ends (IsAddress.scaled r t) = record {
+  first = _;
+  rest = _;
+  whole = refl;
+  tail = record { percent_is = refl; index_is = refl; minus_is = refl; sign_is = refl; free_is = refl };
+}
+address_ends (IsAddress.base_index r t) = record {
+  first = _;
+  rest = _;
+  whole = refl;
+  tail = record { percent_is = refl; index_is = refl; minus_is = refl; sign_is = refl; free_is = refl };
+}
+address_ends (IsAddress.base_scaled r t u) = record {
+  first = _;
+  rest = _;
+  whole = refl;
+  tail = record { percent_is = refl; index_is = refl; minus_is = refl; sign_is = refl; free_is = refl };
+}
 
 -- the same after what is clear
 ends_longer : (f ss : List Terminal) (a b c d e : Bool) → Clear f → Ends ss a b c d e → Ends (f ++ ss) a b c d e
@@ -127,12 +188,24 @@ same_ends ss ts a b c d e h n = subst (λ (x : List Terminal). Ends x a b c d e)
 
 form_ends : (sh : Shape) (ss : List Terminal) (f : Form) → (ss ≡ [] → ⊥) → IsForm sh ss f → Ends ss false false false false false
 form_ends sh ss f never (IsForm.absent h) = absurd (never refl)
-form_ends sh ss f never (IsForm.text h) = record { first = _; rest = _; whole = refl; tail = record { percent_is = refl; index_is = refl; minus_is = refl; sign_is = refl; free_is = refl } }
-form_ends sh ss f never (IsForm.register h r) = record { first = _; rest = _; whole = refl; tail = record { percent_is = refl; index_is = refl; minus_is = refl; sign_is = refl; free_is = refl } }
-form_ends sh ss f never (IsForm.immediate {ss = vs} h v) = ends_longer (terminal.Dollar ∷ []) vs false false false false false (clear_lead place.Immediate) (value_ends v)
+form_ends sh ss f never (IsForm.text h) = record {
+  first = _;
+  rest = _;
+  whole = refl;
+  tail = record { percent_is = refl; index_is = refl; minus_is = refl; sign_is = refl; free_is = refl };
+}
+form_ends sh ss f never (IsForm.register h r) = record {
+  first = _;
+  rest = _;
+  whole = refl;
+  tail = record { percent_is = refl; index_is = refl; minus_is = refl; sign_is = refl; free_is = refl };
+}
+form_ends sh ss f never (IsForm.immediate {ss = vs} h v) =
+    ends_longer (terminal.Dollar ∷ []) vs false false false false false (clear_lead place.Immediate) (value_ends v)
 form_ends sh ss f never (IsForm.value v) = value_ends v
 form_ends sh ss f never (IsForm.address h a) = address_ends a
-form_ends sh ss f never (IsForm.value_address vs ps h e v a) = same_ends ss (vs ++ ps) false false false false false e (ends_longer vs ps false false false false false (clear_value v) (address_ends a))
+form_ends sh ss f never (IsForm.value_address vs ps h e v a) = same_ends ss (vs ++ ps) false false false false false e
+    (ends_longer vs ps false false false false false (clear_value v) (address_ends a))
 
 -- ---- what has been read of an argument
 
@@ -140,54 +213,176 @@ lead_ends : (p : ValuePlace) (ss : List Terminal) (a b c d e : Bool) → Ends ss
 lead_ends p ss a b c d e n = ends_longer (lead p) ss a b c d e (clear_lead p) n
 
 sign_ends : (n : List ℕ) (neg : Bool) → Ends (terminal.Name n ∷ sign neg ∷ []) false false neg true false
-sign_ends n true = record { first = _; rest = _; whole = refl; tail = record { percent_is = refl; index_is = refl; minus_is = refl; sign_is = refl; free_is = refl } }
-sign_ends n false = record { first = _; rest = _; whole = refl; tail = record { percent_is = refl; index_is = refl; minus_is = refl; sign_is = refl; free_is = refl } }
+sign_ends n true = record {
+  first = _;
+  rest = _;
+  whole = refl;
+  tail = record { percent_is = refl; index_is = refl; minus_is = refl; sign_is = refl; free_is = refl };
+}
+sign_ends n false = record {
+  first = _;
+  rest = _;
+  whole = refl;
+  tail = record { percent_is = refl; index_is = refl; minus_is = refl; sign_is = refl; free_is = refl };
+}
 
 sign_minus_ends : (n : List ℕ) (neg : Bool) → Ends (terminal.Name n ∷ sign neg ∷ terminal.Minus ∷ []) false false true true false
-sign_minus_ends n true = record { first = _; rest = _; whole = refl; tail = record { percent_is = refl; index_is = refl; minus_is = refl; sign_is = refl; free_is = refl } }
-sign_minus_ends n false = record { first = _; rest = _; whole = refl; tail = record { percent_is = refl; index_is = refl; minus_is = refl; sign_is = refl; free_is = refl } }
+sign_minus_ends n true = record {
+  first = _;
+  rest = _;
+  whole = refl;
+  tail = record { percent_is = refl; index_is = refl; minus_is = refl; sign_is = refl; free_is = refl };
+}
+sign_minus_ends n false = record {
+  first = _;
+  rest = _;
+  whole = refl;
+  tail = record { percent_is = refl; index_is = refl; minus_is = refl; sign_is = refl; free_is = refl };
+}
 
 percent_part : (b : Option (List ℕ)) → Ends (base_part b ++ terminal.Percent ∷ []) true false false false false
-percent_part None = record { first = _; rest = _; whole = refl; tail = record { percent_is = refl; index_is = refl; minus_is = refl; sign_is = refl; free_is = refl } }
-percent_part (Some b) = record { first = _; rest = _; whole = refl; tail = record { percent_is = refl; index_is = refl; minus_is = refl; sign_is = refl; free_is = refl } }
+percent_part None = record {
+  first = _;
+  rest = _;
+  whole = refl;
+  tail = record { percent_is = refl; index_is = refl; minus_is = refl; sign_is = refl; free_is = refl };
+}
+percent_part (Some b) = record {
+  first = _;
+  rest = _;
+  whole = refl;
+  tail = record { percent_is = refl; index_is = refl; minus_is = refl; sign_is = refl; free_is = refl };
+}
 
 base_ends : (b : Option (List ℕ)) → Ends (base_part b) false false false false false
-base_ends None = record { first = _; rest = _; whole = refl; tail = record { percent_is = refl; index_is = refl; minus_is = refl; sign_is = refl; free_is = refl } }
-base_ends (Some b) = record { first = _; rest = _; whole = refl; tail = record { percent_is = refl; index_is = refl; minus_is = refl; sign_is = refl; free_is = refl } }
+base_ends None = record {
+  first = _;
+  rest = _;
+  whole = refl;
+  tail = record { percent_is = refl; index_is = refl; minus_is = refl; sign_is = refl; free_is = refl };
+}
+base_ends (Some b) = record {
+  first = _;
+  rest = _;
+  whole = refl;
+  tail = record { percent_is = refl; index_is = refl; minus_is = refl; sign_is = refl; free_is = refl };
+}
 
-index_part : (b : Option (List ℕ)) (i : List ℕ) → Ends (base_part b ++ terminal.Percent ∷ terminal.Name i ∷ []) false false false false false
-index_part None i = record { first = _; rest = _; whole = refl; tail = record { percent_is = refl; index_is = refl; minus_is = refl; sign_is = refl; free_is = refl } }
-index_part (Some b) i = record { first = _; rest = _; whole = refl; tail = record { percent_is = refl; index_is = refl; minus_is = refl; sign_is = refl; free_is = refl } }
+index_part : (b : Option (List ℕ)) (i : List ℕ) → Ends (base_part b ++ terminal.Percent ∷ terminal.Name i ∷ []) false
+    false false false false
+index_part None i = record {
+  first = _;
+  rest = _;
+  whole = refl;
+  tail = record { percent_is = refl; index_is = refl; minus_is = refl; sign_is = refl; free_is = refl };
+}
+index_part (Some b) i = record {
+  first = _;
+  rest = _;
+  whole = refl;
+  tail = record { percent_is = refl; index_is = refl; minus_is = refl; sign_is = refl; free_is = refl };
+}
 
-scale_part : (b : Option (List ℕ)) (i : List ℕ) → Ends (base_part b ++ terminal.Percent ∷ terminal.Name i ∷ terminal.Comma ∷ []) false true false false false
-scale_part None i = record { first = _; rest = _; whole = refl; tail = record { percent_is = refl; index_is = refl; minus_is = refl; sign_is = refl; free_is = refl } }
-scale_part (Some b) i = record { first = _; rest = _; whole = refl; tail = record { percent_is = refl; index_is = refl; minus_is = refl; sign_is = refl; free_is = refl } }
+scale_part : (b : Option (List ℕ)) (i : List ℕ) → Ends (base_part b ++ terminal.Percent ∷ terminal.Name i ∷ terminal.Comma ∷ []) false
+    true false false false
+scale_part None i = record {
+  first = _;
+  rest = _;
+  whole = refl;
+  tail = record { percent_is = refl; index_is = refl; minus_is = refl; sign_is = refl; free_is = refl };
+}
+scale_part (Some b) i = record {
+  first = _;
+  rest = _;
+  whole = refl;
+  tail = record { percent_is = refl; index_is = refl; minus_is = refl; sign_is = refl; free_is = refl };
+}
 
-scaled_part : (b : Option (List ℕ)) (i : List ℕ) (s : ℕ) → Ends (base_part b ++ terminal.Percent ∷ terminal.Name i ∷ terminal.Comma ∷ terminal.Number s ∷ []) false false false false false
-scaled_part None i s = record { first = _; rest = _; whole = refl; tail = record { percent_is = refl; index_is = refl; minus_is = refl; sign_is = refl; free_is = refl } }
-scaled_part (Some b) i s = record { first = _; rest = _; whole = refl; tail = record { percent_is = refl; index_is = refl; minus_is = refl; sign_is = refl; free_is = refl } }
+scaled_part : (b : Option (List ℕ)) (i : List ℕ) (s : ℕ)
+    → Ends (base_part b ++ terminal.Percent ∷ terminal.Name i ∷ terminal.Comma ∷ terminal.Number s ∷ []) false false false false false
+scaled_part None i s = record {
+  first = _;
+  rest = _;
+  whole = refl;
+  tail = record { percent_is = refl; index_is = refl; minus_is = refl; sign_is = refl; free_is = refl };
+}
+scaled_part (Some b) i s = record {
+  first = _;
+  rest = _;
+  whole = refl;
+  tail = record { percent_is = refl; index_is = refl; minus_is = refl; sign_is = refl; free_is = refl };
+}
 
 abbrev EndsAs : Partial → List Terminal → Type 0
 EndsAs p ss = Ends ss (percents p) (indexed p) (minuses p) (signs p) (frees p)
 
 in_address : (sh : Shape) (p : Partial) (ss ps : List Terminal) (w : WithAddress sh p ss) → w.parts ≡ ps → EndsAs p ps → EndsAs p ss
-in_address sh p ss ps w e n = same_ends ss (w.values ++ ps) _ _ _ _ _ (w.whole ∙ ap (λ (x : List Terminal). w.values ++ x) e) (ends_longer w.values ps _ _ _ _ _ (clear_option w.is_value) n)
+in_address sh p ss ps w e n = same_ends ss (w.values ++ ps) _ _ _ _ _ (w.whole ∙ ap (λ (x : List Terminal). w.values ++ x) e)
+    (ends_longer w.values ps _ _ _ _ _ (clear_option w.is_value) n)
 
 spelled_ends : (sh : Shape) (p : Partial) (ss : List Terminal) → (ss ≡ [] → ⊥) → Spelled sh p ss → EndsAs p ss
 spelled_ends sh partial.Nothing ss never h = absurd (never h)
 spelled_ends sh partial.Absent ss never h = absurd (never h.0)
-spelled_ends sh partial.Percent ss never h = same_ends ss _ _ _ _ _ _ h.1 (record { first = _; rest = _; whole = refl; tail = record { percent_is = refl; index_is = refl; minus_is = refl; sign_is = refl; free_is = refl } })
-spelled_ends sh partial.Dollar ss never h = same_ends ss _ _ _ _ _ _ h.1 (record { first = _; rest = _; whole = refl; tail = record { percent_is = refl; index_is = refl; minus_is = refl; sign_is = refl; free_is = refl } })
-spelled_ends sh (partial.Minus p) ss never h = same_ends ss _ _ _ _ _ _ h.2 (lead_ends p _ _ _ _ _ _ (record { first = _; rest = _; whole = refl; tail = record { percent_is = refl; index_is = refl; minus_is = refl; sign_is = refl; free_is = refl } }))
-spelled_ends sh (partial.Name p n) ss never h = same_ends ss _ _ _ _ _ _ h.2 (lead_ends p _ _ _ _ _ _ (record { first = _; rest = _; whole = refl; tail = record { percent_is = refl; index_is = refl; minus_is = refl; sign_is = refl; free_is = refl } }))
+spelled_ends sh partial.Percent ss never h =
+    same_ends ss _ _ _ _ _ _ h.1
+    (record {
+      first = _;
+      rest = _;
+      whole = refl;
+      tail = record { percent_is = refl; index_is = refl; minus_is = refl; sign_is = refl; free_is = refl };
+    })
+spelled_ends sh partial.Dollar ss never h =
+    same_ends ss _ _ _ _ _ _ h.1
+    (record {
+      first = _;
+      rest = _;
+      whole = refl;
+      tail = record { percent_is = refl; index_is = refl; minus_is = refl; sign_is = refl; free_is = refl };
+    })
+spelled_ends sh (partial.Minus p) ss never h =
+    same_ends ss _ _ _ _ _ _ h.2
+    (lead_ends p _ _ _ _ _ _
+    (record {
+      first = _;
+      rest = _;
+      whole = refl;
+      tail = record { percent_is = refl; index_is = refl; minus_is = refl; sign_is = refl; free_is = refl };
+    }))
+spelled_ends sh (partial.Name p n) ss never h =
+    same_ends ss _ _ _ _ _ _ h.2
+    (lead_ends p _ _ _ _ _ _
+    (record {
+      first = _;
+      rest = _;
+      whole = refl;
+      tail = record { percent_is = refl; index_is = refl; minus_is = refl; sign_is = refl; free_is = refl };
+    }))
 spelled_ends sh (partial.Sign p n true) ss never h = same_ends ss _ _ _ _ _ _ h.2 (lead_ends p _ _ _ _ _ _ (sign_ends n true))
 spelled_ends sh (partial.Sign p n false) ss never h = same_ends ss _ _ _ _ _ _ h.2 (lead_ends p _ _ _ _ _ _ (sign_ends n false))
 spelled_ends sh (partial.SignMinus p n neg) ss never h = same_ends ss _ _ _ _ _ _ h.2 (lead_ends p _ _ _ _ _ _ (sign_minus_ends n neg))
 spelled_ends sh (partial.Number p v) ss never h = same_ends ss _ _ _ _ _ _ h.3 (lead_ends p _ _ _ _ _ _ (value_ends h.2))
 spelled_ends sh (partial.Whole f) ss never h = form_ends sh ss f never h
-spelled_ends sh (partial.Open v) ss never h = in_address sh (partial.Open v) ss _ h h.inside.1 (record { first = _; rest = _; whole = refl; tail = record { percent_is = refl; index_is = refl; minus_is = refl; sign_is = refl; free_is = refl } })
-spelled_ends sh (partial.BasePercent v) ss never h = in_address sh (partial.BasePercent v) ss _ h h.inside.1 (record { first = _; rest = _; whole = refl; tail = record { percent_is = refl; index_is = refl; minus_is = refl; sign_is = refl; free_is = refl } })
-spelled_ends sh (partial.Base v b) ss never h = in_address sh (partial.Base v b) ss _ h h.inside.1 (record { first = _; rest = _; whole = refl; tail = record { percent_is = refl; index_is = refl; minus_is = refl; sign_is = refl; free_is = refl } })
+spelled_ends sh (partial.Open v) ss never h = in_address sh (partial.Open v) ss _ h h.inside.1
+    (record {
+      first = _;
+      rest = _;
+      whole = refl;
+      tail = record { percent_is = refl; index_is = refl; minus_is = refl; sign_is = refl; free_is = refl };
+    })
+spelled_ends sh (partial.BasePercent v) ss never h = in_address sh (partial.BasePercent v) ss _ h h.inside.1
+    (record {
+      first = _;
+      rest = _;
+      whole = refl;
+      tail = record { percent_is = refl; index_is = refl; minus_is = refl; sign_is = refl; free_is = refl };
+    })
+spelled_ends sh (partial.Base v b) ss never h = in_address sh (partial.Base v b) ss _ h h.inside.1
+    (record {
+      first = _;
+      rest = _;
+      whole = refl;
+      tail = record { percent_is = refl; index_is = refl; minus_is = refl; sign_is = refl; free_is = refl };
+    })
 spelled_ends sh (partial.IndexComma v b) ss never h = in_address sh (partial.IndexComma v b) ss _ h h.inside.1 (base_ends b)
 spelled_ends sh (partial.IndexPercent v b) ss never h = in_address sh (partial.IndexPercent v b) ss _ h h.inside.1 (percent_part b)
 spelled_ends sh (partial.Index v b i) ss never h = in_address sh (partial.Index v b i) ss _ h h.inside.1 (index_part b i)
@@ -195,5 +390,6 @@ spelled_ends sh (partial.Scale v b i) ss never h = in_address sh (partial.Scale 
 spelled_ends sh (partial.Scaled v b i n) ss never h = in_address sh (partial.Scaled v b i n) ss _ h h.inside.1 (scaled_part b i n)
 
 -- What has been read says how the terminals end, with or without a star.
-pub spelled_tail : (sh : Shape) (p : Partial) (star : Bool) (ss : List Terminal) → (ss ≡ [] → ⊥) → Spelled sh p ss → Tail (stars star ++ ss) (percents p) (indexed p) (minuses p) (signs p) (frees p)
+pub spelled_tail : (sh : Shape) (p : Partial) (star : Bool) (ss : List Terminal) → (ss ≡ [] → ⊥) → Spelled sh p ss
+    → Tail (stars star ++ ss) (percents p) (indexed p) (minuses p) (signs p) (frees p)
 spelled_tail sh p star ss never h = after (stars star) ss _ _ _ _ _ (clear_stars star) (spelled_ends sh p ss never h)

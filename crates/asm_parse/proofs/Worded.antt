@@ -35,9 +35,11 @@ lexed_worded (Lexed.gap piece rest e g more) = Worded.gap piece rest e g (lexed_
 lexed_worded (Lexed.token k piece rest e t more) = Worded.token k piece rest e t (lexed_worded more)
 
 abbrev wrong_ending : ℕ → SourceCause → Ending → Next → Type 0
-wrong_ending l c e n = ((e ≡ Ending.broken l c) × (c ≡ cause.OpenComment → ⊥)) ⊎ ((e ≡ Ending.comment l) × (c ≡ cause.OpenComment) × (m : Mode) × (n ≡ Goes m))
+wrong_ending l c e n =
+    ((e ≡ Ending.broken l c) × (c ≡ cause.OpenComment → ⊥)) ⊎ ((e ≡ Ending.comment l) × (c ≡ cause.OpenComment) × (m : Mode) × (n ≡ Goes m))
 
-comment_goes : (bs : List ℕ) (star : Bool) (seen : List ℕ) (at line l : ℕ) → is_unclosed star bs ≡ true → (m : Mode) × ((scan (comment_mode star l) seen at line bs).ending ≡ Goes m)
+comment_goes : (bs : List ℕ) (star : Bool) (seen : List ℕ) (at line l : ℕ) → is_unclosed star bs ≡ true → (m : Mode)
+    × ((scan (comment_mode star l) seen at line bs).ending ≡ Goes m)
 comment_goes [] true seen at line l u = (_, refl)
 comment_goes [] false seen at line l u = (_, refl)
 comment_goes (b ∷ bs) star seen at line l u =
@@ -46,46 +48,85 @@ comment_goes (b ∷ bs) star seen at line l u =
     (g.0, ap (λ (x : Scan). x.ending) (in_body star b bs seen at line l p.0 p.1) ∙ g.1)
 
 abbrev WordedWrong : ℕ → ℕ → List ℕ → List ℕ → ℕ → SourceCause → Type 0
-WordedWrong at line text seen l c = (e : Ending) × wrong_ending l c e (scan mode.Between seen at line text).ending × Worded at line text (scan mode.Between seen at line text).words e
+WordedWrong at line text seen l c = (e : Ending) × wrong_ending l c e (scan mode.Between seen at line text).ending
+    × Worded at line text (scan mode.Between seen at line text).words e
 
-wrong_worded : {line l : ℕ} {text : List ℕ} {c : SourceCause} → Wrong line text l c → (seen : List ℕ) (at : ℕ) → length seen ≡ at → WordedWrong at line text seen l c
+wrong_worded : {line l : ℕ} {text : List ℕ} {c : SourceCause} → Wrong line text l c → (seen : List ℕ) (at : ℕ) → length seen ≡ at
+    → WordedWrong at line text seen l c
 wrong_worded {line} {l} {text} {c} (Wrong.gap piece rest e g more) seen at same =
     let w = wrong_worded more (seen ++ piece) (at + length piece) (seen_more seen piece at same) in
-    let words : (scan mode.Between seen at line text).words ≡ (scan mode.Between (seen ++ piece) (at + length piece) (lines_after line piece) rest).words = ap (λ (x : List ℕ). (scan mode.Between seen at line x).words) e ∙ ap (λ (x : Scan). x.words) (skip_gap piece rest g seen at line) in
-    let ending : (scan mode.Between seen at line text).ending ≡ (scan mode.Between (seen ++ piece) (at + length piece) (lines_after line piece) rest).ending = ap (λ (x : List ℕ). (scan mode.Between seen at line x).ending) e ∙ ap (λ (x : Scan). x.ending) (skip_gap piece rest g seen at line) in
-    (w.0, subst (wrong_ending l c w.0) (sym ending) w.1, Worded.gap piece rest e g (subst (λ (x : List Word). Worded (at + length piece) (lines_after line piece) rest x w.0) (sym words) w.2))
+    let words : (scan mode.Between seen at line text).words
+    ≡ (scan mode.Between (seen ++ piece) (at + length piece) (lines_after line piece) rest).words =
+    ap (λ (x : List ℕ). (scan mode.Between seen at line x).words) e ∙ ap (λ (x : Scan). x.words) (skip_gap piece rest g seen at line) in
+    let ending : (scan mode.Between seen at line text).ending
+    ≡ (scan mode.Between (seen ++ piece) (at + length piece) (lines_after line piece) rest).ending =
+    ap (λ (x : List ℕ). (scan mode.Between seen at line x).ending) e ∙ ap (λ (x : Scan). x.ending) (skip_gap piece rest g seen at line) in (
+      w.0,
+      subst (wrong_ending l c w.0) (sym ending) w.1,
+      Worded.gap piece rest e g (subst (λ (x : List Word). Worded (at + length piece) (lines_after line piece) rest x w.0) (sym words) w.2),
+    )
 wrong_worded {line} {l} {text} {c} (Wrong.token k piece rest e t more) seen at same =
     let w = wrong_worded more (seen ++ piece) (at + length piece) (seen_more seen piece at same) in
-    let words : (scan mode.Between seen at line text).words ≡ record { kind = k; at = at; line = line; bytes = piece } ∷ (scan mode.Between (seen ++ piece) (at + length piece) (lines_after line piece) rest).words =
-    ap (λ (x : List ℕ). (scan mode.Between seen at line x).words) e ∙ ap (λ (x : Scan). x.words) (over_token k piece rest t seen at line same) in
-    let ending : (scan mode.Between seen at line text).ending ≡ (scan mode.Between (seen ++ piece) (at + length piece) (lines_after line piece) rest).ending = ap (λ (x : List ℕ). (scan mode.Between seen at line x).ending) e ∙ ap (λ (x : Scan). x.ending) (over_token k piece rest t seen at line same) in
-    (w.0, subst (wrong_ending l c w.0) (sym ending) w.1, subst (λ (x : List Word). Worded at line text x w.0) (sym words) (Worded.token k piece rest e t w.2))
+    let words : (scan mode.Between seen at line text).words
+    ≡ record { kind = k; at = at; line = line; bytes = piece } ∷ (scan mode.Between (seen ++ piece) (at + length piece)
+    (lines_after line piece) rest).words =
+    ap (λ (x : List ℕ). (scan mode.Between seen at line x).words) e
+    ∙ ap (λ (x : Scan). x.words) (over_token k piece rest t seen at line same) in
+    let ending : (scan mode.Between seen at line text).ending
+    ≡ (scan mode.Between (seen ++ piece) (at + length piece) (lines_after line piece) rest).ending =
+    ap (λ (x : List ℕ). (scan mode.Between seen at line x).ending) e
+    ∙ ap (λ (x : Scan). x.ending) (over_token k piece rest t seen at line same) in (
+      w.0,
+      subst (wrong_ending l c w.0) (sym ending) w.1,
+      subst (λ (x : List Word). Worded at line text x w.0) (sym words) (Worded.token k piece rest e t w.2),
+    )
 wrong_worded {line} {l} {text} {c} (Wrong.here piece rest next e is at_line) seen at same =
-    let words : (scan mode.Between seen at line text).words ≡ [] = ap (λ (x : List ℕ). (scan mode.Between seen at line x).words) e ∙ ap (λ (x : Scan). x.words) (wrong_breaks piece rest next c is seen at line) in
-    (Ending.broken (lines_after line piece) c, inl (ap (λ (x : ℕ). Ending.broken x c) (sym at_line), wrong_cause is), subst (λ (x : List Word). Worded at line text x (Ending.broken (lines_after line piece) c)) (sym words) (Worded.broken piece rest e is))
+    let words : (scan mode.Between seen at line text).words ≡ [] = ap (λ (x : List ℕ). (scan mode.Between seen at line x).words) e
+    ∙ ap (λ (x : Scan). x.words) (wrong_breaks piece rest next c is seen at line) in (
+      Ending.broken (lines_after line piece) c,
+      inl (ap (λ (x : ℕ). Ending.broken x c) (sym at_line), wrong_cause is),
+      subst (λ (x : List Word). Worded at line text x (Ending.broken (lines_after line piece) c)) (sym words)
+          (Worded.broken piece rest e is),
+    )
 wrong_worded {line} (Wrong.open_comment {b} {d} {bs} k e u) seen at same =
-    let words : (scan mode.Between seen at line (b ∷ d ∷ bs)).words ≡ [] = rw (k, e) (comment_empty bs false ((seen ++ b ∷ []) ++ d ∷ []) (at + 1 + 1) (line_after (line_after line b) d) (line_after line b) u) in
+    let words : (scan mode.Between seen at line (b ∷ d ∷ bs)).words ≡ [] =
+    rw (k, e) (comment_empty bs false ((seen ++ b ∷ []) ++ d ∷ []) (at + 1 + 1) (line_after (line_after line b) d) (line_after line b) u) in
     let goes = comment_goes bs false ((seen ++ b ∷ []) ++ d ∷ []) (at + 1 + 1) (line_after (line_after line b) d) (line_after line b) u in
-    let ending : (scan mode.Between seen at line (b ∷ d ∷ bs)).ending ≡ Goes goes.0 = rw (k, e) goes.1 in
-    (Ending.comment line, inr (refl, refl, goes.0, ending), subst (λ (x : List Word). Worded at line (b ∷ d ∷ bs) x (Ending.comment line)) (sym words) (Worded.comment k e u))
+    let ending : (scan mode.Between seen at line (b ∷ d ∷ bs)).ending ≡ Goes goes.0 = rw (k, e) goes.1 in (
+      Ending.comment line,
+      inr (refl, refl, goes.0, ending),
+      subst (λ (x : List Word). Worded at line (b ∷ d ∷ bs) x (Ending.comment line)) (sym words) (Worded.comment k e u),
+    )
 
 -- The words of a text are those of its scan.
-pub text_worded : (text : List ℕ) → (e : Ending) × EndsSo e (scan mode.Between [] 0 1 (text ++ 10 ∷ [])).ending × Worded 0 1 (text ++ 10 ∷ []) (scan mode.Between [] 0 1 (text ++ 10 ∷ [])).words e
+pub text_worded : (text : List ℕ) → (e : Ending) × EndsSo e (scan mode.Between [] 0 1 (text ++ 10 ∷ [])).ending
+    × Worded 0 1 (text ++ 10 ∷ []) (scan mode.Between [] 0 1 (text ++ 10 ∷ [])).words e
 text_worded text =
     let s = same (text ++ 10 ∷ []) mode.Between [] 0 1 refl (omega arith) in
-    by_ending (scan mode.Between [] 0 1 (text ++ 10 ∷ [])).ending refl (subst IsClosed (sym s.ending) (last_closed text mode.Between 0 1)) s.ending
+    by_ending (scan mode.Between [] 0 1 (text ++ 10 ∷ [])).ending refl
+    (subst IsClosed (sym s.ending) (last_closed text mode.Between 0 1)) s.ending
   where
-    of_wrong : (l : ℕ) (c : SourceCause) → Wrong 1 (text ++ 10 ∷ []) l c → (n : Next) → (scan mode.Between [] 0 1 (text ++ 10 ∷ [])).ending ≡ n → ((e : Ending) → wrong_ending l c e n → EndsSo e n)
-        → (e : Ending) × EndsSo e (scan mode.Between [] 0 1 (text ++ 10 ∷ [])).ending × Worded 0 1 (text ++ 10 ∷ []) (scan mode.Between [] 0 1 (text ++ 10 ∷ [])).words e
+    of_wrong : (l : ℕ) (c : SourceCause) → Wrong 1 (text ++ 10 ∷ []) l c → (n : Next) → (scan mode.Between [] 0 1 (text ++ 10 ∷ [])).ending
+        ≡ n → ((e : Ending) → wrong_ending l c e n → EndsSo e n)
+        → (e : Ending) × EndsSo e (scan mode.Between [] 0 1 (text ++ 10 ∷ [])).ending
+        × Worded 0 1 (text ++ 10 ∷ []) (scan mode.Between [] 0 1 (text ++ 10 ∷ [])).words e
     of_wrong l c w n is so =
         let g = wrong_worded w [] 0 refl in
         (g.0, subst (EndsSo g.0) (sym is) (so g.0 (subst (wrong_ending l c g.0) is g.1)), g.2)
 
-    by_ending : (n : Next) → (scan mode.Between [] 0 1 (text ++ 10 ∷ [])).ending ≡ n → IsClosed (scan mode.Between [] 0 1 (text ++ 10 ∷ [])).ending → (scan mode.Between [] 0 1 (text ++ 10 ∷ [])).ending ≡ (token_scan mode.Between 0 1 (text ++ 10 ∷ [])).ending
-        → (e : Ending) × EndsSo e (scan mode.Between [] 0 1 (text ++ 10 ∷ [])).ending × Worded 0 1 (text ++ 10 ∷ []) (scan mode.Between [] 0 1 (text ++ 10 ∷ [])).words e
+    by_ending : (n : Next) → (scan mode.Between [] 0 1 (text ++ 10 ∷ [])).ending ≡ n
+        → IsClosed (scan mode.Between [] 0 1 (text ++ 10 ∷ [])).ending → (scan mode.Between [] 0 1 (text ++ 10 ∷ [])).ending
+        ≡ (token_scan mode.Between 0 1 (text ++ 10 ∷ [])).ending
+        → (e : Ending) × EndsSo e (scan mode.Between [] 0 1 (text ++ 10 ∷ [])).ending
+        × Worded 0 1 (text ++ 10 ∷ []) (scan mode.Between [] 0 1 (text ++ 10 ∷ [])).words e
     by_ending (Goes mode.Between) is closed tokens =
-        let whole : scan mode.Between [] 0 1 (text ++ 10 ∷ []) ≡ record { words = (scan mode.Between [] 0 1 (text ++ 10 ∷ [])).words; ending = Goes mode.Between } = ap (λ (n : Next). record { words = (scan mode.Between [] 0 1 (text ++ 10 ∷ [])).words; ending = n }) is in
-        (Ending.whole, subst (EndsSo Ending.whole) (sym is) EndsSo.whole, lexed_worded (found (text ++ 10 ∷ []) [] 0 1 (scan mode.Between [] 0 1 (text ++ 10 ∷ [])).words refl whole))
+        let whole : scan mode.Between [] 0 1 (text ++ 10 ∷ [])
+        ≡ record { words = (scan mode.Between [] 0 1 (text ++ 10 ∷ [])).words; ending = Goes mode.Between } =
+        ap (λ (n : Next). record { words = (scan mode.Between [] 0 1 (text ++ 10 ∷ [])).words; ending = n }) is in (
+          Ending.whole,
+          subst (EndsSo Ending.whole) (sym is) EndsSo.whole,
+          lexed_worded (found (text ++ 10 ∷ []) [] 0 1 (scan mode.Between [] 0 1 (text ++ 10 ∷ [])).words refl whole),
+        )
     by_ending (Stops l c) is closed tokens =
         of_wrong l c (refused_for text (Err (fault.At l c)) (inl (sym tokens ∙ is))) (Stops l c) is stops_so
       where
@@ -93,7 +134,8 @@ text_worded text =
         stops_so e (inl (f, other)) = rw f EndsSo.broken
         stops_so e (inr (f, g, m, h)) = absurd cc
     by_ending (Goes (mode.Block l)) is closed tokens =
-        of_wrong l cause.OpenComment (refused_for text (Err (fault.At l cause.OpenComment)) (inr (sym tokens ∙ is, refl))) (Goes (mode.Block l)) is block_so
+        of_wrong l cause.OpenComment (refused_for text (Err (fault.At l cause.OpenComment)) (inr (sym tokens ∙ is, refl)))
+        (Goes (mode.Block l)) is block_so
       where
         block_so : (e : Ending) → wrong_ending l cause.OpenComment e (Goes (mode.Block l)) → EndsSo e (Goes (mode.Block l))
         block_so e (inl (f, other)) = absurd (other refl)

@@ -21,7 +21,8 @@ written (p ∷ ps) = p.bytes ++ (32 ∷ written ps)
 
 abbrev pub words_at : ℕ → ℕ → List Piece → List Word
 words_at at line [] = []
-words_at at line (p ∷ ps) = record { kind = p.kind; at = at; line = line; bytes = p.bytes } ∷ words_at (at + length p.bytes + length {A = ℕ} (32 ∷ [])) (lines_after (lines_after line p.bytes) (32 ∷ [])) ps
+words_at at line (p ∷ ps) = record { kind = p.kind; at = at; line = line; bytes = p.bytes } ∷ words_at
+    (at + length p.bytes + length {A = ℕ} (32 ∷ [])) (lines_after (lines_after line p.bytes) (32 ∷ [])) ps
 
 abbrev pub terminals_of : List Piece → List Terminal
 terminals_of [] = []
@@ -49,7 +50,8 @@ blank_is = refl
 
 pub written_lexed : (ps : List Piece) → ArePieces ps → (at line : ℕ) → Lexed at line (written ps) (words_at at line ps)
 written_lexed [] h at line = Lexed.none
-written_lexed (p ∷ ps) h at line = Lexed.token p.kind p.bytes (32 ∷ written ps) refl (h.0 (written ps)) (Lexed.gap (32 ∷ []) (written ps) refl (IsGap.blank blank_is) (written_lexed ps h.1 _ _))
+written_lexed (p ∷ ps) h at line = Lexed.token p.kind p.bytes (32 ∷ written ps) refl (h.0 (written ps))
+    (Lexed.gap (32 ∷ []) (written ps) refl (IsGap.blank blank_is) (written_lexed ps h.1 _ _))
 
 -- ---- tokens
 

@@ -30,7 +30,8 @@ use Rattle.asm_argument.specs.Terminals.{terminal_of}
 
 -- ---- the words of a text, of which the last may be followed by what is no token
 
--- After the words comes the text's end, a byte with which no token goes on, with its line and cause, or a comment that began in this line and doesn't end.
+-- After the words comes the text's end, a byte with which no token goes on, with its line and cause, or a comment that began in
+-- this line and doesn't end.
 pub data Ending : Type 0 where
   whole : Ending
   broken : ℕ → SourceCause → Ending
@@ -41,10 +42,14 @@ pub data Worded : ℕ → ℕ → List ℕ → List Word → Ending → Type 0 w
   none : {at line : ℕ} → Worded at line [] [] Ending.whole
   gap : {at line : ℕ} {text : List ℕ} {ws : List Word} {e : Ending} (piece rest : List ℕ) → text ≡ piece ++ rest → IsGap piece rest
       → Worded (at + length piece) (lines_after line piece) rest ws e → Worded at line text ws e
-  token : {at line : ℕ} {text : List ℕ} {ws : List Word} {e : Ending} (k : TokenKind) (piece rest : List ℕ) → text ≡ piece ++ rest → IsToken k piece rest
-      → Worded (at + length piece) (lines_after line piece) rest ws e → Worded at line text (record { kind = k; at = at; line = line; bytes = piece } ∷ ws) e
-  broken : {at line next : ℕ} {text : List ℕ} {c : SourceCause} (piece rest : List ℕ) → text ≡ piece ++ next ∷ rest → IsWrong piece next c → Worded at line text [] (Ending.broken (lines_after line piece) c)
-  comment : {at line b d : ℕ} {bs : List ℕ} → class_of b ≡ class.Slash → (d == 42) ≡ true → is_unclosed false bs ≡ true → Worded at line (b ∷ d ∷ bs) [] (Ending.comment line)
+  token : {at line : ℕ} {text : List ℕ} {ws : List Word} {e : Ending} (k : TokenKind) (piece rest : List ℕ) → text ≡ piece ++ rest
+      → IsToken k piece rest
+      → Worded (at + length piece) (lines_after line piece) rest ws e
+      → Worded at line text (record { kind = k; at = at; line = line; bytes = piece } ∷ ws) e
+  broken : {at line next : ℕ} {text : List ℕ} {c : SourceCause} (piece rest : List ℕ) → text ≡ piece ++ next ∷ rest → IsWrong piece next c
+      → Worded at line text [] (Ending.broken (lines_after line piece) c)
+  comment : {at line b d : ℕ} {bs : List ℕ} → class_of b ≡ class.Slash → (d == 42) ≡ true → is_unclosed false bs ≡ true
+      → Worded at line (b ∷ d ∷ bs) [] (Ending.comment line)
 
 -- ---- the first word that is refused
 
@@ -60,9 +65,12 @@ IsNoBeginning ws = (more : List Word) (sc : ScopeView) → Statements fresh (ws 
 
 -- What stands in front of the arguments of a directive or an instruction.
 pub data Leads (sc : ScopeView) : Head → List Terminal → Type 0 where
-  instruction : {n : List ℕ} → is_passed sc n ≡ false → is_dotted n ≡ false → is_rep n ≡ false → Leads sc (head.Instruction false n) (terminal.Name n ∷ [])
-  repeated : {r n : List ℕ} → is_passed sc r ≡ false → is_dotted r ≡ false → is_rep r ≡ true → Leads sc (head.Instruction true n) (terminal.Name r ∷ terminal.Name n ∷ [])
-  directive : {n : List ℕ} {k : Directive} → is_passed sc n ≡ false → is_dotted n ≡ true → directive_of n ≡ Some k → has_list k ≡ true → Leads sc (head.Directive k n) (terminal.Name n ∷ [])
+  instruction : {n : List ℕ} → is_passed sc n ≡ false → is_dotted n ≡ false → is_rep n ≡ false
+      → Leads sc (head.Instruction false n) (terminal.Name n ∷ [])
+  repeated : {r n : List ℕ} → is_passed sc r ≡ false → is_dotted r ≡ false → is_rep r ≡ true
+      → Leads sc (head.Instruction true n) (terminal.Name r ∷ terminal.Name n ∷ [])
+  directive : {n : List ℕ} {k : Directive} → is_passed sc n ≡ false → is_dotted n ≡ true → directive_of n ≡ Some k → has_list k ≡ true
+      → Leads sc (head.Directive k n) (terminal.Name n ∷ [])
 
 -- Nothing, or what an argument of this shape begins with.
 pub data Opens : Option Shape → List Terminal → Type 0 where
@@ -82,9 +90,13 @@ pub data StatementPlace : Type 0 where
 pub data LeadsTo (sc : ScopeView) : List Terminal → StatementPlace → Type 0 where
   first : LeadsTo sc [] StatementPlace.first
   named : {n : List ℕ} → LeadsTo sc (terminal.Name n ∷ []) (StatementPlace.named n)
-  section : {n m : List ℕ} (ss : List Terminal) → is_passed sc n ≡ false → is_dotted n ≡ true → directive_of n ≡ Some kind.Section → is_section m ≡ true → list_all is_inner ss ≡ true → LeadsTo sc (terminal.Name n ∷ terminal.Name m ∷ ss) StatementPlace.section
-  skipped : {line : ℕ} {ss : List Terminal} → ((rest : List Terminal) → list_all is_inner rest ≡ true → Statement sc line (ss ++ (rest ++ terminal.End ∷ [])) sc) → LeadsTo sc ss StatementPlace.skipped
-  argument : {h : Head} {sc2 : ScopeView} {done : List Argument} (s t : Terminal) (ss lead front arg : List Terminal) → s ∷ t ∷ ss ≡ lead ++ (front ++ arg) → Leads sc h lead → Separated h sc front done sc2 → Opens (shape_at h (length done)) arg
+  section : {n m : List ℕ} (ss : List Terminal) → is_passed sc n ≡ false → is_dotted n ≡ true → directive_of n ≡ Some kind.Section
+      → is_section m ≡ true → list_all is_inner ss ≡ true → LeadsTo sc (terminal.Name n ∷ terminal.Name m ∷ ss) StatementPlace.section
+  skipped : {line : ℕ} {ss : List Terminal}
+      → ((rest : List Terminal) → list_all is_inner rest ≡ true → Statement sc line (ss ++ (rest ++ terminal.End ∷ [])) sc)
+      → LeadsTo sc ss StatementPlace.skipped
+  argument : {h : Head} {sc2 : ScopeView} {done : List Argument} (s t : Terminal) (ss lead front arg : List Terminal) → s ∷ t ∷ ss ≡ lead
+      ++ (front ++ arg) → Leads sc h lead → Separated h sc front done sc2 → Opens (shape_at h (length done)) arg
       → LeadsTo sc (s ∷ t ∷ ss) (StatementPlace.argument h done sc2 arg)
 
 -- These words are whole statements, which say this, and others of a statement that lead to this place.
@@ -162,7 +174,8 @@ value_cause h done sc [] (terminal.Name n) =
     if option_map_or takes_names (shape_at h (length done)) false then name_cause sc (defines h (length done)) n else cause.BadArgument
 value_cause h done sc [] s = misplaced s
 value_cause h done sc (t ∷ ts) terminal.Big = cause.BadNumber
-value_cause h done sc (t ∷ ts) (terminal.Number n) = if is_minus (last_of (t ∷ ts)) then (if is_low n then cause.BadArgument else cause.BadNumber) else cause.BadOperand
+value_cause h done sc (t ∷ ts) (terminal.Number n) =
+    if is_minus (last_of (t ∷ ts)) then (if is_low n then cause.BadArgument else cause.BadNumber) else cause.BadOperand
 value_cause h done sc (t ∷ ts) terminal.Comma = if is_sign (last_of (t ∷ ts)) then cause.BadOperand else cause.BadArgument
 value_cause h done sc (t ∷ ts) terminal.End = if is_sign (last_of (t ∷ ts)) then cause.BadOperand else cause.BadArgument
 value_cause h done sc (t ∷ ts) s = cause.BadOperand
@@ -202,7 +215,8 @@ behind_cause sc p s rest = cause_at sc p s
 -- The cause of a word in this place that is refused, with these terminals after it. A name with which no statement begins is by the
 -- terminal after it no label or no directive.
 abbrev pub refused_cause : ScopeView → StatementPlace → Terminal → List Terminal → SourceCause
-refused_cause sc StatementPlace.first (terminal.Name n) [] = if is_none (directive_of n) then cause.UnknownDirective else cause.TooManySymbols
+refused_cause sc StatementPlace.first (terminal.Name n) [] =
+    if is_none (directive_of n) then cause.UnknownDirective else cause.TooManySymbols
 refused_cause sc StatementPlace.first (terminal.Name n) (s ∷ rest) = behind_cause sc (StatementPlace.named n) s rest
 refused_cause sc p s rest = behind_cause sc p s rest
 
@@ -217,8 +231,11 @@ byte_cause sc p c = c
 -- The text is refused in this line for this cause: at the first word with which no source goes on,
 -- or where all words can go on, at the byte or comment that ends them.
 pub data Refused (text : List ℕ) : ℕ → SourceCause → Type 0 where
-  word : {sc : ScopeView} {p : StatementPlace} {e : Ending} (ws rest : List Word) (w : Word) → Worded 0 1 (text ++ 10 ∷ []) (ws ++ w ∷ rest) e → IsBeginning ws → IsNoBeginning (ws ++ w ∷ []) → Reaches ws sc p
+  word : {sc : ScopeView} {p : StatementPlace} {e : Ending} (ws rest : List Word) (w : Word)
+      → Worded 0 1 (text ++ 10 ∷ []) (ws ++ w ∷ rest) e → IsBeginning ws → IsNoBeginning (ws ++ w ∷ []) → Reaches ws sc p
       → Refused text w.line (refused_cause sc p (terminal_of w.kind w.bytes) (terminals rest))
-  byte : {sc : ScopeView} {p : StatementPlace} {line : ℕ} {c : SourceCause} (ws : List Word) → Worded 0 1 (text ++ 10 ∷ []) ws (Ending.broken line c) → IsBeginning ws → Reaches ws sc p
+  byte : {sc : ScopeView} {p : StatementPlace} {line : ℕ} {c : SourceCause} (ws : List Word)
+      → Worded 0 1 (text ++ 10 ∷ []) ws (Ending.broken line c) → IsBeginning ws → Reaches ws sc p
       → Refused text line (byte_cause sc p c)
-  comment : {line : ℕ} (ws : List Word) → Worded 0 1 (text ++ 10 ∷ []) ws (Ending.comment line) → IsBeginning ws → Refused text line cause.OpenComment
+  comment : {line : ℕ} (ws : List Word) → Worded 0 1 (text ++ 10 ∷ []) ws (Ending.comment line) → IsBeginning ws
+      → Refused text line cause.OpenComment

@@ -26,7 +26,8 @@ use Rattle.asm_statement.specs.Directives.{shape_at, least, defines, is_dotted, 
 -- A symbol's name is seen. What it defines must not have been defined before, and there are at most 65,536 names.
 pub data IsSeen : ScopeView → Bool → List ℕ → ScopeView → Type 0 where
   used : {sc : ScopeView} {n : List ℕ} → has_room sc n ≡ true → IsSeen sc false n (noted sc n)
-  defined : {sc : ScopeView} {n : List ℕ} → holds sc.defined n ≡ false → has_room sc n ≡ true → IsSeen sc true n (defined_too (noted sc n) n)
+  defined : {sc : ScopeView} {n : List ℕ} → holds sc.defined n ≡ false → has_room sc n ≡ true
+      → IsSeen sc true n (defined_too (noted sc n) n)
 
 -- the same for a name that may be there
 abbrev pub Sees : ScopeView → Bool → Option (List ℕ) → ScopeView → Type 0
@@ -38,7 +39,8 @@ Sees sc def (Some n) sc2 = IsSeen sc def n sc2
 -- An operand may have a star.
 pub data IsArgument : Shape → List Terminal → Argument → Type 0 where
   plain : {sh : Shape} {ss : List Terminal} {f : Form} → IsForm sh ss f → IsArgument sh ss (record { star = false; form = f })
-  starred : {sh : Shape} {ss : List Terminal} {f : Form} → is_operand sh ≡ true → IsForm sh ss f → IsArgument sh (terminal.Star ∷ ss) (record { star = true; form = f })
+  starred : {sh : Shape} {ss : List Terminal} {f : Form} → is_operand sh ≡ true → IsForm sh ss f
+      → IsArgument sh (terminal.Star ∷ ss) (record { star = true; form = f })
 
 -- The next argument of this directive or instruction, and the name that is seen in it.
 pub record IsNext (h : Head) (sc : ScopeView) (before : List Argument) (ss : List Terminal) (a : Argument) (sc2 : ScopeView) : Type 0 where
@@ -50,13 +52,15 @@ pub record IsNext (h : Head) (sc : ScopeView) (before : List Argument) (ss : Lis
 -- arguments with a comma after each
 pub data Separated (h : Head) (sc : ScopeView) : List Terminal → List Argument → ScopeView → Type 0 where
   none : Separated h sc [] [] sc
-  more : {ss ts : List Terminal} {before : List Argument} {a : Argument} {sc1 sc2 : ScopeView} → Separated h sc ss before sc1 → IsNext h sc1 before ts a sc2
+  more : {ss ts : List Terminal} {before : List Argument} {a : Argument} {sc1 sc2 : ScopeView} → Separated h sc ss before sc1
+      → IsNext h sc1 before ts a sc2
       → Separated h sc (ss ++ (ts ++ terminal.Comma ∷ [])) (before ++ a ∷ []) sc2
 
 -- no arguments, or arguments with commas between them
 pub data HasArguments (h : Head) (sc : ScopeView) : List Terminal → List Argument → ScopeView → Type 0 where
   none : HasArguments h sc [] [] sc
-  some : {ss ts : List Terminal} {before : List Argument} {a : Argument} {sc1 sc2 : ScopeView} → Separated h sc ss before sc1 → IsNext h sc1 before ts a sc2
+  some : {ss ts : List Terminal} {before : List Argument} {a : Argument} {sc1 sc2 : ScopeView} → Separated h sc ss before sc1
+      → IsNext h sc1 before ts a sc2
       → HasArguments h sc (ss ++ ts) (before ++ a ∷ []) sc2
 
 -- ---- statements
@@ -92,20 +96,31 @@ pub data Statement : ScopeView → ℕ → List Terminal → ScopeView → Type 
   empty : {sc : ScopeView} {line : ℕ} → Statement sc line (terminal.End ∷ []) sc
   label : {sc sc2 : ScopeView} {line : ℕ} {n : List ℕ} → sc.skipping ≡ false → IsSeen sc true n sc2
       → Statement sc line (terminal.Name n ∷ terminal.Colon ∷ []) (pushed sc2 (record { line = line; body = body.Label n }))
-  instruction : {sc sc2 : ScopeView} {line : ℕ} {n : List ℕ} {ss : List Terminal} {args : List Argument} → is_passed sc n ≡ false → is_dotted n ≡ false → is_rep n ≡ false
-      → HasArguments (head.Instruction false n) sc ss args sc2 → Statement sc line (terminal.Name n ∷ (ss ++ terminal.End ∷ [])) (pushed sc2 (item_of line (head.Instruction false n) args))
-  repeated : {sc sc2 : ScopeView} {line : ℕ} {r n : List ℕ} {ss : List Terminal} {args : List Argument} → is_passed sc r ≡ false → is_dotted r ≡ false → is_rep r ≡ true
-      → HasArguments (head.Instruction true n) sc ss args sc2 → Statement sc line (terminal.Name r ∷ terminal.Name n ∷ (ss ++ terminal.End ∷ [])) (pushed sc2 (item_of line (head.Instruction true n) args))
-  directive : {sc sc2 : ScopeView} {line : ℕ} {n : List ℕ} {k : Directive} {ss : List Terminal} {args : List Argument} → is_passed sc n ≡ false → is_dotted n ≡ true → directive_of n ≡ Some k → has_list k ≡ true
+  instruction : {sc sc2 : ScopeView} {line : ℕ} {n : List ℕ} {ss : List Terminal} {args : List Argument} → is_passed sc n ≡ false
+      → is_dotted n ≡ false → is_rep n ≡ false
+      → HasArguments (head.Instruction false n) sc ss args sc2 → Statement sc line (terminal.Name n ∷ (ss ++ terminal.End ∷ []))
+      (pushed sc2 (item_of line (head.Instruction false n) args))
+  repeated : {sc sc2 : ScopeView} {line : ℕ} {r n : List ℕ} {ss : List Terminal} {args : List Argument} → is_passed sc r ≡ false
+      → is_dotted r ≡ false → is_rep r ≡ true
+      → HasArguments (head.Instruction true n) sc ss args sc2
+      → Statement sc line (terminal.Name r ∷ terminal.Name n ∷ (ss ++ terminal.End ∷ []))
+      (pushed sc2 (item_of line (head.Instruction true n) args))
+  directive : {sc sc2 : ScopeView} {line : ℕ} {n : List ℕ} {k : Directive} {ss : List Terminal} {args : List Argument}
+      → is_passed sc n ≡ false → is_dotted n ≡ true → directive_of n ≡ Some k → has_list k ≡ true
       → HasArguments (head.Directive k n) sc ss args sc2 → nat_lt (length args) (least (head.Directive k n)) ≡ false
-      → Statement sc line (terminal.Name n ∷ (ss ++ terminal.End ∷ [])) (resumed (pushed sc2 (item_of line (head.Directive k n) args)) (head.Directive k n))
-  skipped_directive : {sc : ScopeView} {line : ℕ} {n : List ℕ} (ss : List Terminal) → is_passed sc n ≡ false → is_dotted n ≡ true → directive_of n ≡ Some kind.Skipped → is_unlabelled ss ≡ true → list_all is_inner ss ≡ true
+      → Statement sc line (terminal.Name n ∷ (ss ++ terminal.End ∷ []))
+      (resumed (pushed sc2 (item_of line (head.Directive k n) args)) (head.Directive k n))
+  skipped_directive : {sc : ScopeView} {line : ℕ} {n : List ℕ} (ss : List Terminal) → is_passed sc n ≡ false → is_dotted n ≡ true
+      → directive_of n ≡ Some kind.Skipped → is_unlabelled ss ≡ true → list_all is_inner ss ≡ true
       → Statement sc line (terminal.Name n ∷ (ss ++ terminal.End ∷ [])) sc
   -- in a section that isn't read
-  skipped_label : {sc : ScopeView} {line : ℕ} {n : List ℕ} → sc.skipping ≡ true → Statement sc line (terminal.Name n ∷ terminal.Colon ∷ []) sc
-  skipped : {sc : ScopeView} {line : ℕ} {n : List ℕ} (ss : List Terminal) → is_passed sc n ≡ true → is_unlabelled ss ≡ true → list_all is_inner ss ≡ true
+  skipped_label : {sc : ScopeView} {line : ℕ} {n : List ℕ} → sc.skipping ≡ true
+      → Statement sc line (terminal.Name n ∷ terminal.Colon ∷ []) sc
+  skipped : {sc : ScopeView} {line : ℕ} {n : List ℕ} (ss : List Terminal) → is_passed sc n ≡ true → is_unlabelled ss ≡ true
+      → list_all is_inner ss ≡ true
       → Statement sc line (terminal.Name n ∷ (ss ++ terminal.End ∷ [])) sc
-  nameless : {sc : ScopeView} {line : ℕ} {s : Terminal} (ss : List Terminal) → sc.skipping ≡ true → is_nameless s ≡ true → list_all is_inner ss ≡ true
+  nameless : {sc : ScopeView} {line : ℕ} {s : Terminal} (ss : List Terminal) → sc.skipping ≡ true → is_nameless s ≡ true
+      → list_all is_inner ss ≡ true
       → Statement sc line (s ∷ (ss ++ terminal.End ∷ [])) sc
 
 -- words as the grammar sees them
@@ -125,12 +140,15 @@ Touch at (w ∷ ws) = (at ≡ w.at) × (is_part w.kind w.bytes ≡ true) × Touc
 -- These words are one statement. The name of a section is what stands up to a comma, a blank or the statement's end.
 pub data IsStatement : ScopeView → List Word → ScopeView → Type 0 where
   plain : {sc sc2 : ScopeView} (w : Word) (ws : List Word) → Statement sc w.line (terminals (w ∷ ws)) sc2 → IsStatement sc (w ∷ ws) sc2
-  section : {sc : ScopeView} {n m : List ℕ} (w v : Word) (parts rest : List Word) (ss : List Terminal) → terminal_of w.kind w.bytes ≡ terminal.Name n → is_passed sc n ≡ false → is_dotted n ≡ true → directive_of n ≡ Some kind.Section
-      → terminal_of v.kind v.bytes ≡ terminal.Name m → is_section m ≡ true → Touch (v.at + length v.bytes) parts → terminals rest ≡ ss ++ terminal.End ∷ [] → are_flags ss ≡ true
+  section : {sc : ScopeView} {n m : List ℕ} (w v : Word) (parts rest : List Word) (ss : List Terminal)
+      → terminal_of w.kind w.bytes ≡ terminal.Name n → is_passed sc n ≡ false → is_dotted n ≡ true → directive_of n ≡ Some kind.Section
+      → terminal_of v.kind v.bytes ≡ terminal.Name m → is_section m ≡ true → Touch (v.at + length v.bytes) parts → terminals rest ≡ ss
+      ++ terminal.End ∷ [] → are_flags ss ≡ true
       → IsStatement sc (w ∷ v ∷ (parts ++ rest)) (sectioned sc w.line n (m ++ text_of parts))
 
 -- These words are statements, which lead from what was said before to what is said then.
 pub data Statements : ScopeView → List Word → ScopeView → Type 0 where
   none : {sc : ScopeView} → Statements sc [] sc
-  more : {sc sc2 sc3 : ScopeView} {ws : List Word} (piece rest : List Word) → ws ≡ piece ++ rest → IsStatement sc piece sc2 → Statements sc2 rest sc3
+  more : {sc sc2 sc3 : ScopeView} {ws : List Word} (piece rest : List Word) → ws ≡ piece ++ rest → IsStatement sc piece sc2
+      → Statements sc2 rest sc3
       → Statements sc ws sc3

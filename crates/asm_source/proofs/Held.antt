@@ -18,4 +18,5 @@ added_holds ns n = by_test (holds ns n) refl
   where
     by_test : (t : Bool) → holds ns n ≡ t → holds (cond t ns (ns ++ n ∷ [])) n ≡ true
     by_test true e = e
-    by_test false e = list_any-append (λ (m : List ℕ). bytes_eq n m) ns (n ∷ []) ∙ or_right (holds ns n) (holds (n ∷ []) n) (or_left (bytes_eq n n) false (nat_list_eq_equiv.refl n))
+    by_test false e = list_any-append (λ (m : List ℕ). bytes_eq n m) ns (n ∷ [])
+        ∙ or_right (holds ns n) (holds (n ∷ []) n) (or_left (bytes_eq n n) false (nat_list_eq_equiv.refl n))

@@ -12,7 +12,8 @@ begins name text = starts_with nat_eq name text
 
 -- What says where the next items stand.
 unfoldable pub section_directives : Table DirectiveName
-section_directives = (codes ".text", called.Text) ∷ (codes ".data", called.Data) ∷ (codes ".bss", called.Bss) ∷ (codes ".section", called.Section) ∷ []
+section_directives =
+    (codes ".text", called.Text) ∷ (codes ".data", called.Data) ∷ (codes ".bss", called.Bss) ∷ (codes ".section", called.Section) ∷ []
 
 -- What says something of a symbol.
 unfoldable pub symbol_directives : Table DirectiveName
@@ -39,7 +40,8 @@ alignment_directives = (codes ".align", called.Aligned) ∷ (codes ".balign", ca
 -- What says nothing of the object.
 unfoldable pub is_skipped : List ℕ → Bool
 is_skipped n =
-    bytes_eq n (codes ".file") || bytes_eq n (codes ".type") || bytes_eq n (codes ".size") || bytes_eq n (codes ".ident") || bytes_eq n (codes ".code32") || bytes_eq n (codes ".loc")
+    bytes_eq n (codes ".file") || bytes_eq n (codes ".type") || bytes_eq n (codes ".size") || bytes_eq n (codes ".ident")
+    || bytes_eq n (codes ".code32") || bytes_eq n (codes ".loc")
     || begins n (codes ".cfi_")
 
 abbrev pub skipped_directive : List ℕ → Option DirectiveName
@@ -53,5 +55,6 @@ a or b = option_or a b
 -- Every directive, by its name.
 unfoldable pub directive_name : List ℕ → Option DirectiveName
 directive_name n =
-    found section_directives n or found symbol_directives n or found value_directives n or found string_directives n or found alignment_directives n
+    found section_directives n or found symbol_directives n or found value_directives n or found string_directives n or found
+    alignment_directives n
     or skipped_directive n

@@ -35,6 +35,7 @@ pub within_grown : (sc : ScopeView) (o : Open) (s : Terminal) → within sc o s 
 within_grown sc o s = shaped sc o s (shape_at o.head (length o.arguments))
 
 -- a fault of noting is the step's
-pub fault_does : (new : ScopeView) (o : Open) (e : StepFault) (r : Result ScopeView SourceCause) → Notes new (Err e) r → Does new (Err e) (after_noting o r)
+pub fault_does : (new : ScopeView) (o : Open) (e : StepFault) (r : Result ScopeView SourceCause) → Notes new (Err e) r
+    → Does new (Err e) (after_noting o r)
 fault_does new o (step_fault.Cause c) r h = ap (after_noting o) h
 fault_does new o step_fault.Memory r h = tt

@@ -57,8 +57,10 @@ directive_shape directive.Strings i = Some shape.Text
 directive_shape directive.Global i = if i == 0 then Some shape.Name else None
 directive_shape directive.Zero i = if i == 0 then Some shape.Count else None
 directive_shape directive.Aligned i = if i == 0 then Some shape.Alignment else None
-directive_shape directive.Powered i = if i == 0 then Some shape.Power else if i == 1 then Some shape.Fill else if i == 2 then Some shape.Count else None
-directive_shape directive.Common i = if i == 0 then Some shape.Name else if i == 1 then Some shape.Count else if i == 2 then Some shape.Alignment else None
+directive_shape directive.Powered i =
+    if i == 0 then Some shape.Power else if i == 1 then Some shape.Fill else if i == 2 then Some shape.Count else None
+directive_shape directive.Common i =
+    if i == 0 then Some shape.Name else if i == 1 then Some shape.Count else if i == 2 then Some shape.Alignment else None
 directive_shape directive.LocalCommon i = if i == 0 then Some shape.Name else if i == 1 then Some shape.Count else None
 directive_shape _ i = None
 

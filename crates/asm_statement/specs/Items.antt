@@ -43,4 +43,6 @@ is_part k bytes = list_all is_inside bytes
 
 -- a change to a named section, which may be one that isn't read
 abbrev pub sectioned : ScopeView → ℕ → List ℕ → List ℕ → ScopeView
-sectioned sc line n m = record (pushed sc (record { line = line; body = body.Directive n (record { star = false; form = form.Text m } ∷ []) })) { skipping = is_unread m }
+sectioned sc line n m =
+    record (pushed sc (record { line = line; body = body.Directive n (record { star = false; form = form.Text m } ∷ []) }))
+    { skipping = is_unread m }

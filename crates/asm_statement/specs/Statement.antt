@@ -118,14 +118,16 @@ nothing_yet line h = record { line = line; head = h; arguments = []; star = fals
 -- an argument of this shape after these
 abbrev pub argument_of : ℕ → Head → List Argument → Option Shape → Result StatementState SourceCause
 argument_of line h done None = Err cause.BadArgument
-argument_of line h done (Some sh) = Ok (state.Arguments (record { line = line; head = h; arguments = done; star = false; so_far = begun sh }))
+argument_of line h done (Some sh) =
+    Ok (state.Arguments (record { line = line; head = h; arguments = done; star = false; so_far = begun sh }))
 
 -- a comma after a whole argument
 abbrev pub next_argument : ℕ → Head → List Argument → Argument → Result StatementState SourceCause
 next_argument line h done last = argument_of line h (done ++ last ∷ []) (shape_at h (length (done ++ last ∷ [])))
 
 abbrev pub complete : ScopeView → ℕ → Head → List Argument → Result (ScopeView × StatementState) SourceCause
-complete sc line h args = if nat_lt (length args) (least h) then Err cause.BadArgument else Ok (resumed (pushed sc (item_of line h args)) h, state.Start)
+complete sc line h args =
+    if nat_lt (length args) (least h) then Err cause.BadArgument else Ok (resumed (pushed sc (item_of line h args)) h, state.Start)
 
 abbrev pub complete_with : ScopeView → ℕ → Head → List Argument → Argument → Result (ScopeView × StatementState) SourceCause
 complete_with sc line h done last = complete sc line h (done ++ last ∷ [])

@@ -12,8 +12,10 @@ use Rattle.machine_model.specs.Run.{Set}
 abbrev begun : Cpu → List ℕ → Set → Board → State
 begun cpu ram set board = record { cpu = cpu; ram = ram; set = set; board = board; step = 0 }
 
-pub state_is : (cpu cpu2 : Cpu) (ram ram2 : List ℕ) (set set2 : Set) (board board2 : Board) → cpu ≡ cpu2 → ram ≡ ram2 → set ≡ set2 → board ≡ board2 → begun cpu ram set board ≡ begun cpu2 ram2 set2 board2
+pub state_is : (cpu cpu2 : Cpu) (ram ram2 : List ℕ) (set set2 : Set) (board board2 : Board) → cpu ≡ cpu2 → ram ≡ ram2 → set ≡ set2
+    → board ≡ board2 → begun cpu ram set board ≡ begun cpu2 ram2 set2 board2
 state_is cpu cpu2 ram ram2 set set2 board board2 p q r t = λ i. record { cpu = p i; ram = q i; set = r i; board = t i; step = 0 }
 
 pub none_within : (frames : ℕ) (set : Set) → set ≡ empty → AreWithin frames set
-none_within frames set is = λ page e found. absurd (none-some e (sym (get-empty nat_cmp page) ∙ (ap (λ (m : Set). get m page) (sym is) ∙ found)))
+none_within frames set is =
+    λ page e found. absurd (none-some e (sym (get-empty nat_cmp page) ∙ (ap (λ (m : Set). get m page) (sym is) ∙ found)))

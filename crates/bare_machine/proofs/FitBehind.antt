@@ -15,9 +15,11 @@ use Rattle.run_trace.specs.Pauses.{IfReached}
 abbrev pub any_image : Image
 any_image = record { text = []; init = []; bss = 0; entry = 0; sites = []; format = 0 }
 
-pub fit_behind : RunsKeepFit → (s : Setting) (exact : Bool) (bound : ℕ) (old new : State) (told tells : Option (List ℕ)) (result : Result Pause Failed)
+pub fit_behind : RunsKeepFit → (s : Setting) (exact : Bool) (bound : ℕ) (old new : State) (told tells : Option (List ℕ))
+    (result : Result Pause Failed)
     → SliceAs s exact bound old new told tells result → Fit old.cpu → length old.cpu.seg ≡ 4 → IfReached result (Fit new.cpu)
 fit_behind law s exact bound old new told tells (Ok Reached) h fit four =
-    subst (λ (x : State). Fit x.cpu) (sym h.ends.1) (law s old (with_set h.last h.passes.whole) h.passes.sets h.reports h.passes.steps fit four).0
+    subst (λ (x : State). Fit x.cpu) (sym h.ends.1)
+    (law s old (with_set h.last h.passes.whole) h.passes.sets h.reports h.passes.steps fit four).0
 fit_behind law s exact bound old new told tells (Ok (Stopped stop)) h fit four = tt
 fit_behind law s exact bound old new told tells (Err failed) h fit four = tt

@@ -60,7 +60,8 @@ entry_is a b h =
 
 pub entry_self : (a : Entry) → same_entry a a ≡ true
 entry_self a =
-    ap (λ b. b && ((a.frame == a.frame) && (same_flag a.user a.user && (same_flag a.write a.write && same_flag a.dirty a.dirty)))) (number_self a.page)
+    ap (λ b. b && ((a.frame == a.frame) && (same_flag a.user a.user && (same_flag a.write a.write && same_flag a.dirty a.dirty))))
+    (number_self a.page)
     ∙ (ap (λ b. b && (same_flag a.user a.user && (same_flag a.write a.write && same_flag a.dirty a.dirty))) (number_self a.frame)
     ∙ (ap (λ b. b && (same_flag a.write a.write && same_flag a.dirty a.dirty)) (flag_self a.user)
     ∙ (ap (λ b. b && same_flag a.dirty a.dirty) (flag_self a.write)
@@ -108,7 +109,8 @@ get_dropping (dropped.Page page) m q = get_with m page None q
 get_dropping (dropped.Dir index) m q = dir_get m index q
 get_dropping dropped.All m q = get-empty nat_cmp q
 
-pub get_left : (d : Dropped) (old : Set) (cs : List Change) (q : ℕ) → get (dropping d (changed old cs)) q ≡ unless (drops d q) (settle (last_change None cs q) (get old q))
+pub get_left : (d : Dropped) (old : Set) (cs : List Change) (q : ℕ) → get (dropping d (changed old cs)) q ≡ unless (drops d q)
+    (settle (last_change None cs q) (get old q))
 get_left d old cs q = get_dropping d (changed old cs) q ∙ ap (unless (drops d q)) (get_changed old cs q)
 
 get_standing : (old now : Set) (q : ℕ) → get (standing old now) q ≡ cond (is_some (get now q)) (get old q) None
@@ -116,7 +118,8 @@ get_standing old now q =
     let p : ℕ → Bool = λ page. is_some (get now page) in
     get-retain_keys old p q (λ x t. ap p (sym (nat_cmp-IsAntisymmetric q x t)))
 
-stands : (gone : Bool) (last : Option (Option Entry)) (o : Option Entry) → unless (is_gone last) (unless gone o) ≡ cond (is_some (unless gone (settle last o))) o None
+stands : (gone : Bool) (last : Option (Option Entry)) (o : Option Entry)
+    → unless (is_gone last) (unless gone o) ≡ cond (is_some (unless gone (settle last o))) o None
 stands true None o = refl
 stands true (Some None) o = refl
 stands true (Some (Some e)) o = refl
@@ -126,7 +129,9 @@ stands false (Some None) o = refl
 stands false (Some (Some e)) o = refl
 
 -- what is held once the pages are gone that have no entry any longer
-pub standing_is : (d : Dropped) (old m : Set) (cs : List Change) → ((q : ℕ) → get m q ≡ unless (is_gone (last_change None cs q)) (get (dropping d old) q)) → m ≡ standing old (dropping d (changed old cs))
+pub standing_is : (d : Dropped) (old m : Set) (cs : List Change)
+    → ((q : ℕ) → get m q ≡ unless (is_gone (last_change None cs q)) (get (dropping d old) q))
+    → m ≡ standing old (dropping d (changed old cs))
 standing_is d old m cs h = same_map nat_cmp_total nat_cmp-IsAntisymmetric _ _ (λ q.
     h q
     ∙ (ap (unless (is_gone (last_change None cs q))) (get_dropping d old q)
@@ -138,10 +143,12 @@ standing_is d old m cs h = same_map nat_cmp_total nat_cmp-IsAntisymmetric _ _ (�
 none_entries : (d : Dropped) (old : Set) (pages : List ℕ) → new_entries old (dropping d old) pages ≡ []
 none_entries d old [] = refl
 none_entries d old (p ∷ ps) =
-    ap (λ (o : Option Entry). with_new o (new_entries old (dropping d old) ps)) (ap (new_entry (get old p)) (get_dropping d old p) ∙ none_new (drops d p) (get old p))
+    ap (λ (o : Option Entry). with_new o (new_entries old (dropping d old) ps))
+    (ap (new_entry (get old p)) (get_dropping d old p) ∙ none_new (drops d p) (get old p))
     ∙ none_entries d old ps
 
-pub kept_unchanged : (keeping : Keeps) (d : Dropped) (old : Set) (pages : List ℕ) → dropping d old ≡ kept_after keeping old pages (dropping d old)
+pub kept_unchanged : (keeping : Keeps) (d : Dropped) (old : Set) (pages : List ℕ)
+    → dropping d old ≡ kept_after keeping old pages (dropping d old)
 kept_unchanged keeping d old pages =
     standing_is d old (dropping d old) [] (λ q. refl)
     ∙ ap (keep_all keeping (standing old (dropping d old))) (sym (none_entries d old pages))
@@ -152,8 +159,10 @@ pub made_keep : (keeping : Keeps) (m : Set) (es : List Entry) → made_in keepin
 made_keep keeping m [] = refl
 made_keep keeping m (e ∷ es) = made_keep keeping (keeping m e) es
 
-pub kept_changed : (keeping : Keeps) (d : Dropped) (old m new : Set) (cs list : List Change) (pages : List ℕ) → list ≡ map Now (new_entries old (dropping d (changed old cs)) pages)
-    → ((q : ℕ) → get m q ≡ unless (is_gone (last_change None cs q)) (get (dropping d old) q)) → new ≡ made_in keeping m list → new ≡ kept_after keeping old pages (dropping d (changed old cs))
+pub kept_changed : (keeping : Keeps) (d : Dropped) (old m new : Set) (cs list : List Change) (pages : List ℕ)
+    → list ≡ map Now (new_entries old (dropping d (changed old cs)) pages)
+    → ((q : ℕ) → get m q ≡ unless (is_gone (last_change None cs q)) (get (dropping d old) q)) → new ≡ made_in keeping m list
+    → new ≡ kept_after keeping old pages (dropping d (changed old cs))
 kept_changed keeping d old m new cs list pages all stood is =
     let now = dropping d (changed old cs) in
     is
@@ -175,14 +184,17 @@ named_within frames d set within = λ q e is. (within q e (held (drops d q) (get
     held false o e h = h
 
 -- each page's new entry is told
-pub told_new : (d : Dropped) (old : Set) (cs : List Change) (pages : List ℕ) → AreToldIn pages cs → (q : ℕ) → is_some (new_entry (get old q) (get (dropping d (changed old cs)) q)) ≡ true → is_among q pages ≡ true
+pub told_new : (d : Dropped) (old : Set) (cs : List Change) (pages : List ℕ) → AreToldIn pages cs → (q : ℕ)
+    → is_some (new_entry (get old q) (get (dropping d (changed old cs)) q)) ≡ true → is_among q pages ≡ true
 told_new d old cs pages told q new = by_among (among q cs) refl
   where
     by_among : (b : Bool) → among q cs ≡ b → is_among q pages ≡ true
     by_among true is = told q is
     by_among false is =
-        let now : get (dropping d (changed old cs)) q ≡ unless (drops d q) (get old q) = get_left d old cs q ∙ ap (λ x. unless (drops d q) (settle x (get old q))) (unchanged q None cs is) in
-        let none : new_entry (get old q) (get (dropping d (changed old cs)) q) ≡ None = ap (new_entry (get old q)) now ∙ none_new (drops d q) (get old q) in
+        let now : get (dropping d (changed old cs)) q ≡ unless (drops d q) (get old q) =
+        get_left d old cs q ∙ ap (λ x. unless (drops d q) (settle x (get old q))) (unchanged q None cs is) in
+        let none : new_entry (get old q) (get (dropping d (changed old cs)) q) ≡ None =
+        ap (new_entry (get old q)) now ∙ none_new (drops d q) (get old q) in
         absurd (let f : false ≡ true = sym (ap is_some none) ∙ new in cc)
 
 module _ (old now : Set) (named : AreNamed now) where
@@ -198,9 +210,11 @@ module _ (old now : Set) (named : AreNamed now) where
   either false x = refl
 
   new_more : (q : ℕ) (f : Option (Option Entry)) (p : ℕ) (ps : List ℕ)
-      → ((f : Option (Option Entry)) → last_change f (map Now (new_entries old now ps)) q ≡ cond (is_among q ps && is_new q) (Some (get now q)) f)
+      → ((f : Option (Option Entry)) → last_change f (map Now (new_entries old now ps)) q ≡ cond (is_among q ps && is_new q)
+      (Some (get now q)) f)
       → (x : Option Entry) → new_entry (get old p) (get now p) ≡ x
-      → last_change f (map Now (with_new x (new_entries old now ps))) q ≡ cond (((q == p) || is_among q ps) && is_new q) (Some (get now q)) f
+      → last_change f (map Now (with_new x (new_entries old now ps))) q ≡ cond (((q == p) || is_among q ps) && is_new q)
+      (Some (get now q)) f
   new_more q f p ps later None is = later f ∙ elim (eqb_tells q p) [
     | inl t ↦
         let none : is_new q ≡ false = ap is_new t.1 ∙ ap is_some is in
@@ -231,18 +245,21 @@ module _ (old now : Set) (named : AreNamed now) where
             ∙ ap (λ b. cond ((b || is_among q ps) && is_new q) (Some (get now q)) f) (sym n.0)
       ]
 
-  last_new : (q : ℕ) (f : Option (Option Entry)) (pages : List ℕ) → last_change f (map Now (new_entries old now pages)) q ≡ cond (is_among q pages && is_new q) (Some (get now q)) f
+  last_new : (q : ℕ) (f : Option (Option Entry)) (pages : List ℕ) → last_change f (map Now (new_entries old now pages)) q ≡ cond
+      (is_among q pages && is_new q) (Some (get now q)) f
   last_new q f [] = refl
   last_new q f (p ∷ ps) = new_more q f p ps (λ g. last_new q g ps) (new_entry (get old p) (get now p)) refl
 
   -- where each new entry is of one of the pages, all that the step left is kept by a cache that loses none
-  pub changed_new : (pages : List ℕ) → ((q : ℕ) → is_new q ≡ true → is_among q pages ≡ true) → changed (standing old now) (map Now (new_entries old now pages)) ≡ now
+  pub changed_new : (pages : List ℕ) → ((q : ℕ) → is_new q ≡ true → is_among q pages ≡ true)
+      → changed (standing old now) (map Now (new_entries old now pages)) ≡ now
   changed_new pages told = same_map nat_cmp_total nat_cmp-IsAntisymmetric _ _ (λ q.
       get_changed (standing old now) (map Now (new_entries old now pages)) q
       ∙ (ap (λ x. settle x (get (standing old now) q)) (last_new q None pages)
       ∙ by_new q (is_new q) refl))
     where
-      by_new : (q : ℕ) (b : Bool) → is_new q ≡ b → settle (cond (is_among q pages && is_new q) (Some (get now q)) None) (get (standing old now) q) ≡ get now q
+      by_new : (q : ℕ) (b : Bool) → is_new q ≡ b → settle (cond (is_among q pages && is_new q) (Some (get now q)) None)
+          (get (standing old now) q) ≡ get now q
       by_new q true is =
           ap (λ b. settle (cond (b && is_new q) (Some (get now q)) None) (get (standing old now) q)) (told q is)
           ∙ ap (λ b. settle (cond b (Some (get now q)) None) (get (standing old now) q)) is
@@ -252,8 +269,10 @@ module _ (old now : Set) (named : AreNamed now) where
           ∙ (get_standing old now q ∙ not_new (get old q) (get now q) is))
 
 -- the same of what a step left
-pub all_left : (frames : ℕ) (d : Dropped) (old m : Set) (cs list : List Change) (pages : List ℕ) → AreWithin frames (changed old cs) → AreToldIn pages cs
-    → list ≡ map Now (new_entries old (dropping d (changed old cs)) pages) → ((q : ℕ) → get m q ≡ unless (is_gone (last_change None cs q)) (get (dropping d old) q)) → changed m list ≡ dropping d (changed old cs)
+pub all_left : (frames : ℕ) (d : Dropped) (old m : Set) (cs list : List Change) (pages : List ℕ) → AreWithin frames (changed old cs)
+    → AreToldIn pages cs
+    → list ≡ map Now (new_entries old (dropping d (changed old cs)) pages)
+    → ((q : ℕ) → get m q ≡ unless (is_gone (last_change None cs q)) (get (dropping d old) q)) → changed m list ≡ dropping d (changed old cs)
 all_left frames d old m cs list pages within told all stood =
     let now = dropping d (changed old cs) in
     ap (changed m) all
@@ -266,7 +285,8 @@ joins : (o : Option Entry) (xs ys : List Entry) → with_new o xs ++ ys ≡ with
 joins None xs ys = refl
 joins (Some e) xs ys = refl
 
-entries_push : (old now : Set) (pages : List ℕ) (p : ℕ) → new_entries old now (pages ++ p ∷ []) ≡ new_entries old now pages ++ with_new (new_entry (get old p) (get now p)) []
+entries_push : (old now : Set) (pages : List ℕ) (p : ℕ) → new_entries old now (pages ++ p ∷ []) ≡ new_entries old now pages
+    ++ with_new (new_entry (get old p) (get now p)) []
 entries_push old now [] p = last_one (new_entry (get old p) (get now p))
   where
     last_one : (o : Option Entry) → with_new o [] ≡ [] ++ with_new o []
@@ -292,13 +312,20 @@ pub record Listed (old now : Set) (pages : List ℕ) (list : List Change) (count
 pub listed_none : (old now : Set) → Listed old now [] [] 0
 listed_none old now = record { are = refl; few = omega arith }
 
-pub listed_same : (old now : Set) (pages : List ℕ) (list : List Change) (count p : ℕ) → new_entry (get old p) (get now p) ≡ None → Listed old now pages list count → Listed old now (pages ++ p ∷ []) list (count + 1)
+pub listed_same : (old now : Set) (pages : List ℕ) (list : List Change) (count p : ℕ) → new_entry (get old p) (get now p) ≡ None
+    → Listed old now pages list count → Listed old now (pages ++ p ∷ []) list (count + 1)
 listed_same old now pages list count p none h = record {
-  are = h.are ∙ ap (map Now) (sym (entries_push old now pages p ∙ (ap (λ (o : Option Entry). new_entries old now pages ++ with_new o []) none ∙ append_none (new_entries old now pages))));
+  are =
+      h.are
+      ∙ ap (map Now)
+      (sym (entries_push old now pages p ∙ (ap (λ (o : Option Entry). new_entries old now pages ++ with_new o []) none ∙ append_none
+      (new_entries old now pages))));
   few = omega (arith, h.few);
 }
 
-pub listed_more : (old now : Set) (pages : List ℕ) (list : List Change) (count p : ℕ) (e : Entry) → new_entry (get old p) (get now p) ≡ Some e → Listed old now pages list count → Listed old now (pages ++ p ∷ []) (list ++ Now e ∷ []) (count + 1)
+pub listed_more : (old now : Set) (pages : List ℕ) (list : List Change) (count p : ℕ) (e : Entry)
+    → new_entry (get old p) (get now p) ≡ Some e → Listed old now pages list count
+    → Listed old now (pages ++ p ∷ []) (list ++ Now e ∷ []) (count + 1)
 listed_more old now pages list count p e some h = record {
   are =
       ap (λ (l : List Change). l ++ Now e ∷ []) h.are
@@ -309,14 +336,19 @@ listed_more old now pages list count p e some h = record {
 
 -- ---- the new entry of one page
 
-pub new_dropped : (d : Dropped) (old : Set) (cs : List Change) (q : ℕ) → drops d q ≡ true → None ≡ new_entry (get old q) (get (dropping d (changed old cs)) q)
+pub new_dropped : (d : Dropped) (old : Set) (cs : List Change) (q : ℕ) → drops d q ≡ true
+    → None ≡ new_entry (get old q) (get (dropping d (changed old cs)) q)
 new_dropped d old cs q gone =
-    sym (ap (new_entry (get old q)) (get_left d old cs q ∙ ap (λ b. unless b (settle (last_change None cs q) (get old q))) gone) ∙ none_left (get old q))
+    sym (ap (new_entry (get old q)) (get_left d old cs q ∙ ap (λ b. unless b (settle (last_change None cs q) (get old q))) gone)
+    ∙ none_left (get old q))
 
-pub new_by_last : (d : Dropped) (old : Set) (cs : List Change) (q : ℕ) (last : Option (Option Entry)) → drops d q ≡ false → last_change None cs q ≡ last
+pub new_by_last : (d : Dropped) (old : Set) (cs : List Change) (q : ℕ) (last : Option (Option Entry)) → drops d q ≡ false
+    → last_change None cs q ≡ last
     → new_entry (get old q) (settle last (get old q)) ≡ new_entry (get old q) (get (dropping d (changed old cs)) q)
 new_by_last d old cs q last stays is =
-    ap (new_entry (get old q)) (sym (get_left d old cs q ∙ (ap (λ b. unless b (settle (last_change None cs q) (get old q))) stays ∙ ap (λ x. settle x (get old q)) is)))
+    ap (new_entry (get old q))
+    (sym (get_left d old cs q
+    ∙ (ap (λ b. unless b (settle (last_change None cs q) (get old q))) stays ∙ ap (λ x. settle x (get old q)) is)))
 
 abbrev small : Option (Option Entry) → Type 0
 small None = Unit {0}
@@ -326,7 +358,8 @@ small (Some (Some e)) = e.page < 2 ^ 20
 small_from : (found : Option (Option Entry)) (cs : List Change) (q : ℕ) → small found → AreOfPages cs → small (last_change found cs q)
 small_from found [] q h all = h
 small_from found (c ∷ cs) q h all =
-    small_from (cond (eqb (page_of c) q) (Some (entry_of c)) found) cs q (chosen_small (eqb (page_of c) q) c (all 0 c (omega arith))) (λ k d lt. all (suc k) d (omega (arith, lt)))
+    small_from (cond (eqb (page_of c) q) (Some (entry_of c)) found) cs q (chosen_small (eqb (page_of c) q) c (all 0 c (omega arith)))
+    (λ k d lt. all (suc k) d (omega (arith, lt)))
   where
     of_change : (c : Change) → page_of c < 2 ^ 20 → small (Some (entry_of c))
     of_change (Gone page) lt = tt
@@ -358,10 +391,12 @@ other_new : (set : Set) (c : Change) (q : ℕ) → eqb q (page_of c) ≡ false �
 other_new set c q no_page =
     ap (new_entry (get set q)) (get_one set c q ∙ ap (λ b. cond b (entry_of c) (get set q)) no_page) ∙ none_new false (get set q)
 
-this_new : (set : Set) (c : Change) (q : ℕ) → q ≡ page_of c → new_entry (get set q) (get (changed set (c ∷ [])) q) ≡ new_entry (get set (page_of c)) (entry_of c)
+this_new : (set : Set) (c : Change) (q : ℕ) → q ≡ page_of c → new_entry (get set q) (get (changed set (c ∷ [])) q) ≡ new_entry
+    (get set (page_of c)) (entry_of c)
 this_new set c q is =
     ap (λ (n : ℕ). new_entry (get set n) (get (changed set (c ∷ [])) n)) is
-    ∙ ap (new_entry (get set (page_of c))) (get_one set c (page_of c) ∙ ap (λ b. cond b (entry_of c) (get set (page_of c))) (number_self (page_of c)))
+    ∙ ap (new_entry (get set (page_of c)))
+    (get_one set c (page_of c) ∙ ap (λ b. cond b (entry_of c) (get set (page_of c))) (number_self (page_of c)))
 
 -- of a page that is gone nothing is new
 gone_new : (set : Set) (page : ℕ) (pages : List ℕ) → new_entries set (changed set (Gone page ∷ [])) pages ≡ []
@@ -387,7 +422,8 @@ turned a b = elim (eqb_tells a b) [
   | inr f ↦ f.0 ∙ sym (elim (eqb_tells b a) [ inl t ↦ absurd (f.1 (sym t.1)) | inr g ↦ g.0 ])
 ]
 
-module _ (keeping : Keeps) (again : (set : Set) (e : Entry) → keeping (keeping set e) e ≡ keeping set e) (set : Set) (e : Entry) (new : new_entry (get set e.page) (Some e) ≡ Some e) where
+module _ (keeping : Keeps) (again : (set : Set) (e : Entry) → keeping (keeping set e) e ≡ keeping set e) (set : Set) (e : Entry)
+    (new : new_entry (get set e.page) (Some e) ≡ Some e) where
   abbrev later : Set
   later = changed set (Now e ∷ [])
 
@@ -396,15 +432,18 @@ module _ (keeping : Keeps) (again : (set : Set) (e : Entry) → keeping (keeping
   all_kept [] = refl
   all_kept (p ∷ ps) = elim (eqb_tells p e.page) [
     | inl t ↦
-        ap (λ (o : Option Entry). keep_all keeping (keeping set e) (with_new o (new_entries set later ps))) (this_new set (Now e) p t.1 ∙ new)
+        ap (λ (o : Option Entry). keep_all keeping (keeping set e) (with_new o (new_entries set later ps)))
+        (this_new set (Now e) p t.1 ∙ new)
         ∙ (ap (λ (m : Set). keep_all keeping m (new_entries set later ps)) (again set e) ∙ all_kept ps)
-    | inr f ↦ ap (λ (o : Option Entry). keep_all keeping (keeping set e) (with_new o (new_entries set later ps))) (other_new set (Now e) p f.0) ∙ all_kept ps
+    | inr f ↦ ap (λ (o : Option Entry). keep_all keeping (keeping set e) (with_new o (new_entries set later ps)))
+        (other_new set (Now e) p f.0) ∙ all_kept ps
   ]
 
   first_kept : (pages : List ℕ) → is_among e.page pages ≡ true → keep_all keeping set (new_entries set later pages) ≡ keeping set e
   first_kept [] among = absurd (let f : false ≡ true = among in cc)
   first_kept (p ∷ ps) among = elim (eqb_tells p e.page) [
-    | inl t ↦ ap (λ (o : Option Entry). keep_all keeping set (with_new o (new_entries set later ps))) (this_new set (Now e) p t.1 ∙ new) ∙ all_kept ps
+    | inl t ↦ ap (λ (o : Option Entry). keep_all keeping set (with_new o (new_entries set later ps))) (this_new set (Now e) p t.1 ∙ new)
+        ∙ all_kept ps
     | inr f ↦
         ap (λ (o : Option Entry). keep_all keeping set (with_new o (new_entries set later ps))) (other_new set (Now e) p f.0)
         ∙ first_kept ps (sym (ap (λ b. b || is_among e.page ps) (turned e.page p ∙ f.0)) ∙ among)
@@ -422,7 +461,8 @@ some_new (Some a) e h = chosen_new (same_entry a e) h
     chosen_new false h = refl
 
 -- one that leaves another entry than there was
-pub kept_one : (keeping : Keeps) → ((set : Set) (e : Entry) → keeping (keeping set e) e ≡ keeping set e) → (set : Set) (c : Change) (pages : List ℕ) → is_change set c ≡ true → AreToldIn pages (c ∷ [])
+pub kept_one : (keeping : Keeps) → ((set : Set) (e : Entry) → keeping (keeping set e) e ≡ keeping set e)
+    → (set : Set) (c : Change) (pages : List ℕ) → is_change set c ≡ true → AreToldIn pages (c ∷ [])
     → made_in keeping set (c ∷ []) ≡ kept_after keeping set pages (changed set (c ∷ []))
 kept_one keeping again set (Gone page) pages new told =
     standing_is dropped.Nothing set (changed set (Gone page ∷ [])) (Gone page ∷ []) (λ q.
@@ -430,7 +470,8 @@ kept_one keeping again set (Gone page) pages new told =
     ∙ ap (keep_all keeping (standing set (changed set (Gone page ∷ [])))) (sym (gone_new set page pages))
 kept_one keeping again set (Now e) pages new told =
     sym (first_kept keeping again set e (some_new (get set e.page) e new) pages (told_one (Now e) pages told))
-    ∙ ap (λ (m : Set). keep_all keeping m (new_entries set (changed set (Now e ∷ [])) pages)) (standing_is dropped.Nothing set set (Now e ∷ []) (λ q. now_stands (eqb e.page q) e (get set q)))
+    ∙ ap (λ (m : Set). keep_all keeping m (new_entries set (changed set (Now e ∷ [])) pages))
+    (standing_is dropped.Nothing set set (Now e ∷ []) (λ q. now_stands (eqb e.page q) e (get set q)))
 
 same_left : (b : Bool) (a e : Entry) → (b ≡ true → a ≡ e) → is_some (cond b None (Some e)) ≡ false → a ≡ e
 same_left true a e same h = same refl
@@ -447,11 +488,13 @@ one_same set (Now e) h = same_map nat_cmp_total nat_cmp-IsAntisymmetric _ _ (λ 
     by_page q (eqb_tells q e.page)
     ∙ sym (get_one set (Now e) q))
   where
-    by_page : (q : ℕ) → ((eqb q e.page ≡ true) × (q ≡ e.page)) ⊎ ((eqb q e.page ≡ false) × (q ≢ e.page)) → get set q ≡ cond (eqb q e.page) (Some e) (get set q)
+    by_page : (q : ℕ) → ((eqb q e.page ≡ true) × (q ≡ e.page)) ⊎ ((eqb q e.page ≡ false) × (q ≢ e.page))
+        → get set q ≡ cond (eqb q e.page) (Some e) (get set q)
     by_page q (inl t) = ap (get set) t.1 ∙ (had (get set e.page) e h ∙ ap (λ b. cond b (Some e) (get set q)) (sym t.0))
     by_page q (inr f) = ap (λ b. cond b (Some e) (get set q)) (sym f.0)
 
-pub kept_same : (keeping : Keeps) (set : Set) (c : Change) (pages : List ℕ) → is_change set c ≡ false → set ≡ kept_after keeping set pages (changed set (c ∷ []))
+pub kept_same : (keeping : Keeps) (set : Set) (c : Change) (pages : List ℕ) → is_change set c ≡ false
+    → set ≡ kept_after keeping set pages (changed set (c ∷ []))
 kept_same keeping set c pages h =
     kept_unchanged keeping dropped.Nothing set pages ∙ ap (λ (m : Set). kept_after keeping set pages m) (one_same set c h)
 
@@ -469,7 +512,8 @@ had_none old e h = had old e (none_is (new_entry old (Some e)) h)
     none_is None h = refl
     none_is (Some x) h = absurd (let f : false ≡ true = h in cc)
 
-part_found : (b : Bool) (o whole : Option Entry) (e : Entry) → cond b o None ≡ Some e → (b ≡ true → o ≡ Some e → whole ≡ Some e) → whole ≡ Some e
+part_found : (b : Bool) (o whole : Option Entry) (e : Entry) → cond b o None ≡ Some e
+    → (b ≡ true → o ≡ Some e → whole ≡ Some e) → whole ≡ Some e
 part_found true o whole e h f = f refl h
 part_found false o whole e h f = absurd (none-some e h)
 
@@ -483,7 +527,8 @@ left_part whole set = record {
 
 -- what is one already stays as it is
 pub left_same : (whole set : Set) → IsPartOf set whole → left_of whole set ≡ set
-left_same whole set part = same_map nat_cmp_total nat_cmp-IsAntisymmetric _ _ (λ q. get_left_of whole set q ∙ by_entry (get whole q) (get set q) (part.each q))
+left_same whole set part =
+    same_map nat_cmp_total nat_cmp-IsAntisymmetric _ _ (λ q. get_left_of whole set q ∙ by_entry (get whole q) (get set q) (part.each q))
   where
     by_entry : (w o : Option Entry) → ((e : Entry) → o ≡ Some e → w ≡ Some e) → cond (is_none (new_entry w o)) o None ≡ o
     by_entry w None h = either_way (is_none (new_entry w None)) None
@@ -492,4 +537,5 @@ left_same whole set part = same_map nat_cmp_total nat_cmp-IsAntisymmetric _ _ (�
         either_way true o = refl
         either_way false o = refl
     by_entry w (Some e) h =
-        ap (λ (o : Option Entry). cond (is_none o) (Some e) None) (ap (λ (x : Option Entry). new_entry x (Some e)) (h e refl) ∙ none_new false (Some e))
+        ap (λ (o : Option Entry). cond (is_none o) (Some e) None)
+        (ap (λ (x : Option Entry). new_entry x (Some e)) (h e refl) ∙ none_new false (Some e))

@@ -22,14 +22,16 @@ none_within law (suc n) board script t h any s lt le =
     ]
 
 -- none comes at all
-pub never : StepsAreQuiet → (board : Board) (script : Events) (t next : ℕ) → IsFirst (comes_within board script t) None → NoneComes script (t + 1) next
+pub never : StepsAreQuiet → (board : Board) (script : Events) (t next : ℕ) → IsFirst (comes_within board script t) None
+    → NoneComes script (t + 1) next
 never law board script t next none = λ any s from before. none_within law s board script t (none s) any s (omega arith) (omega arith)
 
 not_yet : (first n : ℕ) → n < first → nat_le first n ≡ false
 not_yet first n lt = grind (arith, nat_tests)
 
 -- the next is that many steps away
-pub until : StepsAreQuiet → (board : Board) (script : Events) (t n next : ℕ) → IsFirst (comes_within board script t) (Some n) → next ≤ t + n → NoneComes script (t + 1) next
+pub until : StepsAreQuiet → (board : Board) (script : Events) (t n next : ℕ) → IsFirst (comes_within board script t) (Some n) → next ≤ t + n
+    → NoneComes script (t + 1) next
 until law board script t zero next first le = λ any s from before. absurd (omega arith)
 until law board script t (suc n) next first le = λ any s from before.
     none_within law n board script t (first n ∙ not_yet (suc n) n (omega arith)) any s (omega arith) (omega arith)

@@ -13,7 +13,8 @@ use Rattle.bare_machine.specs.Machine.{translations_of, StepsBy, FirstIs}
 use Rattle.bare_machine.specs.Slices.{SliceAs, OneStepAs}
 use Rattle.bare_machine.proofs.Runs.{same_step}
 
-by_one_counted : (s : Setting) (old : State) (reports : List Report) (last : State) → StepsBy s translations_of old reports last → last.step ≡ old.step + length reports
+by_one_counted : (s : Setting) (old : State) (reports : List Report) (last : State) → StepsBy s translations_of old reports last
+    → last.step ≡ old.step + length reports
 unfolding StepsBy
 by_one_counted s old [] last h =
     let is = ap (λ (b : State). b.step) h in
@@ -24,7 +25,8 @@ by_one_counted s old (now ∷ later) last h =
     omega (arith, one, more)
 
 -- one step by an exact cache
-by_one : (s : Setting) (old : State) (reports : List Report) (last : State) → StepsBy s translations_of old reports last → last.step ≡ old.step + 1 → (now : Report) × (step_of s old old.set ≡ Went now last)
+by_one : (s : Setting) (old : State) (reports : List Report) (last : State) → StepsBy s translations_of old reports last
+    → last.step ≡ old.step + 1 → (now : Report) × (step_of s old old.set ≡ Went now last)
 unfolding StepsBy
 by_one s old [] last h n =
     let is = ap (λ (b : State). b.step) h in
@@ -35,7 +37,8 @@ by_one s old (now ∷ next ∷ later) last h n =
     absurd (omega (arith, all, n))
 
 -- what one step was
-pub one_of : (s : Setting) (old : State) (sets : List Set) (reports : List Report) (last : State) (x whole : Set) → Steps s old sets reports (with_set last whole) → FirstIs old.set (sets ++ x ∷ []) → last.step ≡ old.step + 1
+pub one_of : (s : Setting) (old : State) (sets : List Set) (reports : List Report) (last : State) (x whole : Set)
+    → Steps s old sets reports (with_set last whole) → FirstIs old.set (sets ++ x ∷ []) → last.step ≡ old.step + 1
     → (report : Report) × (step_of s old old.set ≡ Went report (with_set last whole)) × (reports ≡ report ∷ [])
 unfolding Steps
 one_of s old [] reports last x whole h first n =
@@ -51,7 +54,8 @@ one_of s old (set ∷ next ∷ sets) reports last x whole h first n =
     absurd (omega (arith, all, n))
 
 -- no step was done
-none_of : (s : Setting) (old : State) (sets : List Set) (reports : List Report) (last : State) (whole : Set) (stop : Stop) → Steps s old sets reports (with_set last whole) → FirstIs old.set (sets ++ last.set ∷ []) → last.step < old.step + 1
+none_of : (s : Setting) (old : State) (sets : List Set) (reports : List Report) (last : State) (whole : Set) (stop : Stop)
+    → Steps s old sets reports (with_set last whole) → FirstIs old.set (sets ++ last.set ∷ []) → last.step < old.step + 1
     → step_of s last last.set ≡ Halts stop → step_of s old old.set ≡ Halts stop
 unfolding Steps
 none_of s old [] reports last whole stop h first n is =
@@ -61,7 +65,8 @@ none_of s old (set ∷ sets) reports last whole stop h first n is =
     let all = steps_counted s old (set ∷ sets) reports (with_set last whole) h in
     absurd (omega (arith, all, n))
 
-pub one_step : (s : Setting) (exact : Bool) (bound : ℕ) (old new : State) (told tells : Option (List ℕ)) (result : Result Pause Failed) → bound ≡ old.step + 1 → SliceAs s exact bound old new told tells result → OneStepAs s exact old new result
+pub one_step : (s : Setting) (exact : Bool) (bound : ℕ) (old new : State) (told tells : Option (List ℕ)) (result : Result Pause Failed)
+    → bound ≡ old.step + 1 → SliceAs s exact bound old new told tells result → OneStepAs s exact old new result
 one_step s exact bound old new told tells (Ok Reached) one h =
     let last : new ≡ h.last = h.ends.1 in
     let n : h.last.step ≡ old.step + 1 = h.ends.0 ∙ one in

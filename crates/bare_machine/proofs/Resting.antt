@@ -19,7 +19,15 @@ use Rattle.bare_machine.proofs.Runs.{part_same, no_steps, by_none}
 
 -- no step passes
 pub rests_none : (s : Setting) (b : State) (whole : Set) → IsPartOf b.set whole → Rests s b whole b
-rests_none s b whole h = record { sets = []; reports = []; left_then = whole; steps = no_steps s (with_set b whole); part = h; exactly = by_none s translations_of b; silent = refl }
+rests_none s b whole h = record {
+  sets = [];
+  reports = [];
+  left_then = whole;
+  steps = no_steps s (with_set b whole);
+  part = h;
+  exactly = by_none s translations_of b;
+  silent = refl;
+}
 
 pub kept_rests_none : (keeping : Keeps) (s : Setting) (b : State) → KeptRests keeping s b b
 unfolding KeptSteps
@@ -27,19 +35,24 @@ kept_rests_none keeping s b = record { reports = []; steps = refl; silent = refl
 
 module _ (halted : HaltedSteps) where
   -- some steps, each by the translations that are left
-  idle_by : (k : ℕ) (s : Setting) (cpu : Cpu) (ram : List ℕ) (set : Set) (board : Board) (t : ℕ) → SleepsThrough cpu board s.script t (suc k)
-      → StepsBy s translations_of (resting cpu ram set board (t + 1)) (nothing ∷ replicate k nothing) (resting cpu ram set (board_steps (suc k) board) (t + 1 + suc k))
+  idle_by : (k : ℕ) (s : Setting) (cpu : Cpu) (ram : List ℕ) (set : Set) (board : Board) (t : ℕ)
+      → SleepsThrough cpu board s.script t (suc k)
+      → StepsBy s translations_of (resting cpu ram set board (t + 1)) (nothing ∷ replicate k nothing)
+      (resting cpu ram set (board_steps (suc k) board) (t + 1 + suc k))
   unfolding StepsBy board_steps
-  idle_by zero s cpu ram set board t sleeps = (resting cpu ram set (board_step board) (t + 1 + 1), (halted.each s cpu ram board t 0 sleeps).goes set set, refl)
+  idle_by zero s cpu ram set board t sleeps =
+      (resting cpu ram set (board_step board) (t + 1 + 1), (halted.each s cpu ram board t 0 sleeps).goes set set, refl)
   idle_by (suc k) s cpu ram set board t sleeps =
       let now = halted.each s cpu ram board t (suc k) sleeps in
       let rest = idle_by k s cpu ram set (board_step board) (t + 1) now.later in (
         resting cpu ram set (board_step board) (t + 1 + 1),
         now.goes set set,
-        subst (λ (n : ℕ). StepsBy s translations_of (resting cpu ram set (board_step board) (t + 1 + 1)) (nothing ∷ replicate k nothing) (resting cpu ram set (board_steps (suc k) (board_step board)) n)) (omega arith) rest,
+        subst (λ (n : ℕ). StepsBy s translations_of (resting cpu ram set (board_step board) (t + 1 + 1)) (nothing ∷ replicate k nothing)
+            (resting cpu ram set (board_steps (suc k) (board_step board)) n)) (omega arith) rest,
       )
 
-  rests_at : (j : ℕ) (s : Setting) (cpu : Cpu) (ram : List ℕ) (whole set : Set) (board : Board) (t : ℕ) → SleepsThrough cpu board s.script t (suc j) → IsPartOf set whole
+  rests_at : (j : ℕ) (s : Setting) (cpu : Cpu) (ram : List ℕ) (whole set : Set) (board : Board) (t : ℕ)
+      → SleepsThrough cpu board s.script t (suc j) → IsPartOf set whole
       → Rests s (resting cpu ram set board (t + 1)) whole (resting cpu ram set (board_steps (suc j) board) (t + 1 + suc j))
   rests_at j s cpu ram whole set board t sleeps part = record {
     sets = set ∷ replicate j set;
@@ -52,7 +65,8 @@ module _ (halted : HaltedSteps) where
   }
 
   -- so many steps pass
-  pub rests_some : (k : ℕ) (s : Setting) (b : State) (whole : Set) → 0 < b.step → (0 < k → b.cpu.held ≡ false) → (0 < k → SleepsThrough b.cpu b.board s.script (b.step - 1) k)
+  pub rests_some : (k : ℕ) (s : Setting) (b : State) (whole : Set) → 0 < b.step → (0 < k → b.cpu.held ≡ false)
+      → (0 < k → SleepsThrough b.cpu b.board s.script (b.step - 1) k)
       → IsPartOf b.set whole → Rests s b whole (record b { board = board_steps k b.board; step = b.step + k })
   rests_some zero s b whole begun held sleeps part =
       let same : b.step ≡ b.step + 0 = omega arith in
@@ -61,30 +75,39 @@ module _ (halted : HaltedSteps) where
   rests_some (suc j) s b whole begun held sleeps part =
       let step_is : b.step - 1 + 1 ≡ b.step = omega arith in
       let cpu_is : record b.cpu { held = false } ≡ b.cpu = ap (λ (h : Bool). record b.cpu { held = h }) (sym (held (omega arith))) in
-      subst (λ (c : Cpu). Rests s (record b { cpu = c }) whole (record b { cpu = c; board = board_steps (suc j) b.board; step = b.step + suc j })) cpu_is
-      (subst (λ (n : ℕ). Rests s (record b { cpu = record b.cpu { held = false }; step = n }) whole (record b { cpu = record b.cpu { held = false }; board = board_steps (suc j) b.board; step = n + suc j })) step_is
+      subst (λ (c : Cpu). Rests s (record b { cpu = c }) whole
+      (record b { cpu = c; board = board_steps (suc j) b.board; step = b.step + suc j })) cpu_is
+      (subst (λ (n : ℕ). Rests s (record b { cpu = record b.cpu { held = false }; step = n }) whole
+      (record b { cpu = record b.cpu { held = false }; board = board_steps (suc j) b.board; step = n + suc j })) step_is
       (rests_at j s b.cpu b.ram whole b.set b.board (b.step - 1) (sleeps (omega arith)) part))
 
   -- the same by a cache, which keeps what is left
-  kept_idle : (keeping : Keeps) (s : Setting) (cpu : Cpu) (ram : List ℕ) (set : Set) (board : Board) (t j : ℕ) → SleepsThrough cpu board s.script t (suc j)
+  kept_idle : (keeping : Keeps) (s : Setting) (cpu : Cpu) (ram : List ℕ) (set : Set) (board : Board) (t j : ℕ)
+      → SleepsThrough cpu board s.script t (suc j)
       → kept_step keeping s (resting cpu ram set board (t + 1)) ≡ Went nothing (resting cpu ram set (board_step board) (t + 1 + 1))
   kept_idle keeping s cpu ram set board t j sleeps =
       ap (kept_by keeping set) ((halted.each s cpu ram board t j sleeps).goes set set)
-      ∙ ap (λ (x : Set). Went nothing (resting cpu ram x (board_step board) (t + 1 + 1))) (ap (left_of set) (sym (kept_unchanged keeping dropped.Nothing set [])) ∙ left_same set set (part_same set))
+      ∙ ap (λ (x : Set). Went nothing (resting cpu ram x (board_step board) (t + 1 + 1)))
+      (ap (left_of set) (sym (kept_unchanged keeping dropped.Nothing set [])) ∙ left_same set set (part_same set))
 
-  idle_kept : (keeping : Keeps) (k : ℕ) (s : Setting) (cpu : Cpu) (ram : List ℕ) (set : Set) (board : Board) (t : ℕ) → SleepsThrough cpu board s.script t (suc k)
-      → KeptSteps keeping s (resting cpu ram set board (t + 1)) (nothing ∷ replicate k nothing) (resting cpu ram set (board_steps (suc k) board) (t + 1 + suc k))
+  idle_kept : (keeping : Keeps) (k : ℕ) (s : Setting) (cpu : Cpu) (ram : List ℕ) (set : Set) (board : Board) (t : ℕ)
+      → SleepsThrough cpu board s.script t (suc k)
+      → KeptSteps keeping s (resting cpu ram set board (t + 1)) (nothing ∷ replicate k nothing)
+      (resting cpu ram set (board_steps (suc k) board) (t + 1 + suc k))
   unfolding KeptSteps board_steps
-  idle_kept keeping zero s cpu ram set board t sleeps = (resting cpu ram set (board_step board) (t + 1 + 1), kept_idle keeping s cpu ram set board t 0 sleeps, refl)
+  idle_kept keeping zero s cpu ram set board t sleeps =
+      (resting cpu ram set (board_step board) (t + 1 + 1), kept_idle keeping s cpu ram set board t 0 sleeps, refl)
   idle_kept keeping (suc k) s cpu ram set board t sleeps =
       let now = halted.each s cpu ram board t (suc k) sleeps in
       let rest = idle_kept keeping k s cpu ram set (board_step board) (t + 1) now.later in (
         resting cpu ram set (board_step board) (t + 1 + 1),
         kept_idle keeping s cpu ram set board t (suc k) sleeps,
-        subst (λ (n : ℕ). KeptSteps keeping s (resting cpu ram set (board_step board) (t + 1 + 1)) (nothing ∷ replicate k nothing) (resting cpu ram set (board_steps (suc k) (board_step board)) n)) (omega arith) rest,
+        subst (λ (n : ℕ). KeptSteps keeping s (resting cpu ram set (board_step board) (t + 1 + 1)) (nothing ∷ replicate k nothing)
+            (resting cpu ram set (board_steps (suc k) (board_step board)) n)) (omega arith) rest,
       )
 
-  pub kept_some : (keeping : Keeps) (k : ℕ) (s : Setting) (b : State) → 0 < b.step → (0 < k → b.cpu.held ≡ false) → (0 < k → SleepsThrough b.cpu b.board s.script (b.step - 1) k)
+  pub kept_some : (keeping : Keeps) (k : ℕ) (s : Setting) (b : State) → 0 < b.step → (0 < k → b.cpu.held ≡ false)
+      → (0 < k → SleepsThrough b.cpu b.board s.script (b.step - 1) k)
       → KeptRests keeping s b (record b { board = board_steps k b.board; step = b.step + k })
   kept_some keeping zero s b begun held sleeps =
       let same : b.step ≡ b.step + 0 = omega arith in
@@ -93,8 +116,10 @@ module _ (halted : HaltedSteps) where
   kept_some keeping (suc j) s b begun held sleeps =
       let step_is : b.step - 1 + 1 ≡ b.step = omega arith in
       let cpu_is : record b.cpu { held = false } ≡ b.cpu = ap (λ (h : Bool). record b.cpu { held = h }) (sym (held (omega arith))) in
-      subst (λ (c : Cpu). KeptRests keeping s (record b { cpu = c }) (record b { cpu = c; board = board_steps (suc j) b.board; step = b.step + suc j })) cpu_is
-      (subst (λ (n : ℕ). KeptRests keeping s (record b { cpu = record b.cpu { held = false }; step = n }) (record b { cpu = record b.cpu { held = false }; board = board_steps (suc j) b.board; step = n + suc j })) step_is
+      subst (λ (c : Cpu). KeptRests keeping s (record b { cpu = c })
+      (record b { cpu = c; board = board_steps (suc j) b.board; step = b.step + suc j })) cpu_is
+      (subst (λ (n : ℕ). KeptRests keeping s (record b { cpu = record b.cpu { held = false }; step = n })
+      (record b { cpu = record b.cpu { held = false }; board = board_steps (suc j) b.board; step = n + suc j })) step_is
       (record {
         reports = nothing ∷ replicate j nothing;
         steps = idle_kept keeping j s b.cpu b.ram b.set b.board (b.step - 1) (sleeps (omega arith));

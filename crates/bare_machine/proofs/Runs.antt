@@ -19,7 +19,8 @@ part_same set = record { each = λ page e is. is }
 
 -- one step more
 pub steps_on : (s : Setting) (old mid new : State) (sets : List Set) (set : Set) (reports : List Report) (now : Report)
-    → Steps s old sets reports mid → Loosened s mid set → step_of s mid set ≡ Went now new → Steps s old (sets ++ set ∷ []) (reports ++ now ∷ []) new
+    → Steps s old sets reports mid → Loosened s mid set → step_of s mid set ≡ Went now new
+    → Steps s old (sets ++ set ∷ []) (reports ++ now ∷ []) new
 steps_on s old mid new sets set reports now steps allowed is =
     steps_join s old mid new sets (set ∷ []) reports (now ∷ []) steps (steps_one s mid new set now allowed is)
 
@@ -42,4 +43,5 @@ pub by_join : (s : Setting) (choose : State → Set) (old mid new : State) (repo
     → StepsBy s choose old reports mid → StepsBy s choose mid later new → StepsBy s choose old (reports ++ later) new
 unfolding StepsBy
 by_join s choose old mid new [] later first rest = subst (λ (b : State). StepsBy s choose b later new) first rest
-by_join s choose old mid new (r ∷ reports) later first rest = (first.0, first.1, by_join s choose first.0 mid new reports later first.2 rest)
+by_join s choose old mid new (r ∷ reports) later first rest =
+    (first.0, first.1, by_join s choose first.0 mid new reports later first.2 rest)

@@ -27,8 +27,10 @@ dir_within frames index set h = λ page x is.
     ]
 
 -- a set that loses entries stays within memory
-pub within_dropped : (frames : ℕ) (d : Dropped) (set part : FinMap nat_cmp Entry) → AreWithin frames set → IsPartOf part (dropping d set) → AreWithin frames part
+pub within_dropped : (frames : ℕ) (d : Dropped) (set part : FinMap nat_cmp Entry) → AreWithin frames set → IsPartOf part (dropping d set)
+    → AreWithin frames part
 within_dropped frames dropped.Nothing set part h p = part_within frames set part h p
-within_dropped frames (dropped.Page page) set part h p = part_within frames (with_entry set page None) part (Within_with frames set page None h tt) p
+within_dropped frames (dropped.Page page) set part h p =
+    part_within frames (with_entry set page None) part (Within_with frames set page None h tt) p
 within_dropped frames (dropped.Dir index) set part h p = part_within frames (without_dir set index) part (dir_within frames index set h) p
 within_dropped frames dropped.All set part h p = part_within frames empty part (none_within frames empty refl) p

@@ -71,7 +71,8 @@ pub record KeptRests (keeping : Keeps) (s : Setting) (old new : State) : Type 0 
   pub silent : trace_of reports ≡ []
 
 -- Such steps up to the bound or to a stop led from the old state to the last, and the lines of what was seen in them were put.
-pub record KeptSlice (keeping : Keeps) (s : Setting) (bound : ℕ) (old new : State) (told tells : Option (List ℕ)) (result : Result Pause Failed) : Type 0 where
+pub record KeptSlice (keeping : Keeps) (s : Setting) (bound : ℕ) (old new : State) (told tells : Option (List ℕ))
+    (result : Result Pause Failed) : Type 0 where
   pub reports : List Report
   pub last : State
   pub steps : KeptSteps keeping s old reports last

@@ -30,7 +30,8 @@ StepsAs c count old new before now (Err failed) = AppendsFront old new (course_t
 -- the answer of a run of this course: its text was put and the sink's count of faults is as it was, or a front of the text
 -- was put where the sink failed, and the count rose
 abbrev pub CourseAs : Course → Option (List ℕ) → Option (List ℕ) → ℕ → ℕ → Result Ended RunFault → Type 0
-CourseAs c old new before now (Ok ended) = (ended ≡ record { steps = c.count; end = c.end; fills = 0 }) × Appends old new (course_text c) × (now ≡ before)
+CourseAs c old new before now (Ok ended) =
+    (ended ≡ record { steps = c.count; end = c.end; fills = 0 }) × Appends old new (course_text c) × (now ≡ before)
 CourseAs c old new before now (Err fault.Write) = AppendsFront old new (course_text c) × Rose before now
 CourseAs c old new before now (Err (fault.TooSmall small)) = ⊥
 CourseAs c old new before now (Err fault.Memory) = ⊥
@@ -45,4 +46,5 @@ CourseAnswers image frames c old new before now (Err fault.Memory) = (new ≡ ol
 
 -- of the run before each step of which nothing is cached
 abbrev pub FreshAnswers : Image → Events → ℕ → ℕ → Option (List ℕ) → Option (List ℕ) → ℕ → ℕ → Result Ended RunFault → Type 0
-FreshAnswers image script frames n old new before now result = CourseAnswers image frames (fresh_run image script frames n) old new before now result
+FreshAnswers image script frames n old new before now result =
+    CourseAnswers image frames (fresh_run image script frames n) old new before now result

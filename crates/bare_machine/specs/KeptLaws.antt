@@ -19,7 +19,8 @@ pub record IsKeptRun (s : Setting) (n : ℕ) (old : State) (c : Course) : Type 0
 
 -- whatever the cache keeps
 abbrev pub EachKeptCourseIsARun : Type 0
-EachKeptCourseIsARun = (keeping : Keeps) (s : Setting) (n : ℕ) (old : State) → old.step ≤ n → IsKeptRun s n old (kept_course keeping s (n - old.step) old)
+EachKeptCourseIsARun =
+    (keeping : Keeps) (s : Setting) (n : ℕ) (old : State) → old.step ≤ n → IsKeptRun s n old (kept_course keeping s (n - old.step) old)
 
 -- so the run with a TLB is one of the image
 abbrev pub EachBufferedRunIsARun : Type 0

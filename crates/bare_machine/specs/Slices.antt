@@ -18,7 +18,8 @@ PausesAs s bound last new (Ok (Stopped stop)) = (last.step < bound) × (new.step
 PausesAs s bound last new (Err failed) = last.step ≤ bound
 
 -- Steps up to the bound or to a stop led from the old state to the last, and the lines of what was seen in them were put.
-pub record SliceAs (s : Setting) (exact : Bool) (bound : ℕ) (old new : State) (told tells : Option (List ℕ)) (result : Result Pause Failed) : Type 0 where
+pub record SliceAs (s : Setting) (exact : Bool) (bound : ℕ) (old new : State) (told tells : Option (List ℕ))
+    (result : Result Pause Failed) : Type 0 where
   pub reports : List Report
   pub last : State
   pub passes : Passes s exact old reports last
@@ -29,6 +30,7 @@ pub record SliceAs (s : Setting) (exact : Bool) (bound : ℕ) (old new : State) 
 -- dropped, but none by an exact cache.
 abbrev pub OneStepAs : Setting → Bool → State → State → Result Pause Failed → Type 0
 OneStepAs s exact old new (Ok Reached) =
-    (report : Report) × (whole : Set) × (step_of s old old.set ≡ Went report (with_set new whole)) × IsPartOf new.set whole × (exact ≡ true → new.set ≡ whole)
+    (report : Report) × (whole : Set) × (step_of s old old.set ≡ Went report (with_set new whole)) × IsPartOf new.set whole
+    × (exact ≡ true → new.set ≡ whole)
 OneStepAs s exact old new (Ok (Stopped stop)) = step_of s old old.set ≡ Halts stop
 OneStepAs s exact old new (Err failed) = Unit {0}

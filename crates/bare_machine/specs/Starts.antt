@@ -16,7 +16,8 @@ use Rattle.bare_machine.specs.declared.machine.BareMachine as machines
 -- the machine stands where every run begins
 abbrev pub StartedAs : {C : Type 0} → (C → Set) → Image → ℕ → Result (machines.BareMachine C) StartFault → Type 0
 StartedAs entries image frames (Ok machine) =
-    (need image ≤ frames) × (machine.frames ≡ frames) × (machine.step ≡ 0) × IsKept frames (state_of entries machine) × ((script : Events) → state_of entries machine ≡ boot (bare image script frames))
+    (need image ≤ frames) × (machine.frames ≡ frames) × (machine.step ≡ 0) × IsKept frames (state_of entries machine)
+    × ((script : Events) → state_of entries machine ≡ boot (bare image script frames))
 StartedAs entries image frames (Err (start.TooSmall small)) = (frames < need image) × (small ≡ record { need = need image; have = frames })
 StartedAs entries image frames (Err start.Memory) = Unit {0}
 

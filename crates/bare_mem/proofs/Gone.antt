@@ -57,14 +57,17 @@ dropped_there true m p q n = get_with_other m p None q n
 dropped_there false m p q n = refl
 
 -- one more
-pub gone_more : (go : ℕ → Bool) (old mid new : Set) (cs : List Change) (c : Change) → new ≡ cond (go (page_of c)) (remove mid (page_of c)) mid → AreGone go old mid cs → AreGone go old new (cs ++ c ∷ [])
+pub gone_more : (go : ℕ → Bool) (old mid new : Set) (cs : List Change) (c : Change) → new ≡ cond (go (page_of c)) (remove mid (page_of c))
+    mid → AreGone go old mid cs → AreGone go old new (cs ++ c ∷ [])
 gone_more go old mid new cs c is h = record {
   each = λ q.
       let p = page_of c in
       elim (eqb_tells q p) [
         | inl t ↦
             here (go q) (among q cs) (get old q) (get new q)
-            (ap (λ (m : Set). get m q) is ∙ (ap (get (cond (go p) (remove mid p) mid)) t.1 ∙ (dropped_here (go p) mid p ∙ (ap (λ x. unless (go x) (get mid x)) (sym t.1) ∙ ap (unless (go q)) (h.each q)))))
+            (ap (λ (m : Set). get m q) is
+            ∙ (ap (get (cond (go p) (remove mid p) mid)) t.1
+            ∙ (dropped_here (go p) mid p ∙ (ap (λ x. unless (go x) (get mid x)) (sym t.1) ∙ ap (unless (go q)) (h.each q)))))
             ∙ ap (λ b. unless (go q && b) (get old q)) (ap (λ b. among q cs || b) (sym t.0) ∙ sym (among_push q cs c))
         | inr f ↦
             there (go q) (among q cs) (get old q) (get new q) (ap (λ (m : Set). get m q) is ∙ (dropped_there (go p) mid p q f.1 ∙ h.each q))
@@ -82,7 +85,8 @@ unchanged q found (c ∷ cs) h = elim (eqb_tells q (page_of c)) [
       ap (λ b. last_change (cond b (Some (entry_of c)) found) cs q) other ∙ unchanged q found cs (sym (ap (λ b. b || among q cs) f.0) ∙ h)
 ]
 
-settled : (q : ℕ) (cs : List Change) (b : Bool) → among q cs ≡ b → (o : Option Entry) → unless (is_gone (last_change None cs q) && b) o ≡ unless (is_gone (last_change None cs q)) o
+settled : (q : ℕ) (cs : List Change) (b : Bool) → among q cs ≡ b → (o : Option Entry) → unless (is_gone (last_change None cs q) && b) o
+    ≡ unless (is_gone (last_change None cs q)) o
 settled q cs true is o = both (is_gone (last_change None cs q)) o
   where
     both : (g : Bool) (o : Option Entry) → unless (g && true) o ≡ unless g o
@@ -93,5 +97,6 @@ settled q cs false is o =
     ap (λ g. unless (g && false) o) none ∙ ap (λ g. unless g o) (sym none)
 
 -- after all of them
-pub gone_all : (old new : Set) (cs : List Change) → AreGone (λ q. is_gone (last_change None cs q)) old new cs → (q : ℕ) → get new q ≡ unless (is_gone (last_change None cs q)) (get old q)
+pub gone_all : (old new : Set) (cs : List Change) → AreGone (λ q. is_gone (last_change None cs q)) old new cs → (q : ℕ)
+    → get new q ≡ unless (is_gone (last_change None cs q)) (get old q)
 gone_all old new cs h q = h.each q ∙ settled q cs (among q cs) refl (get old q)

@@ -18,7 +18,8 @@ found_before old new x h is =
     elim h [ inl same ↦ sym same ∙ is | inr gone ↦ absurd (none-some x (sym gone ∙ is)) ]
 
 -- the page's entry is this one, and others are as before or gone
-pub part_turned : (old new whole : FinMap nat_cmp Entry) (page : ℕ) (entry : Option Entry) → get new page ≡ entry → ((q : ℕ) → q ≢ page → IsSameOrGone (get old q) (get new q)) → IsPartOf old whole → IsPartOf new (with_entry whole page entry)
+pub part_turned : (old new whole : FinMap nat_cmp Entry) (page : ℕ) (entry : Option Entry) → get new page ≡ entry
+    → ((q : ℕ) → q ≢ page → IsSameOrGone (get old q) (get new q)) → IsPartOf old whole → IsPartOf new (with_entry whole page entry)
 part_turned old new whole page entry here others h = record {
   each = λ q x is.
       elim (eqb_tells q page) [
@@ -28,7 +29,8 @@ part_turned old new whole page entry here others h = record {
 }
 
 -- and others are as before
-pub all_turned : (old new : FinMap nat_cmp Entry) (page : ℕ) (entry : Option Entry) → get new page ≡ entry → ((q : ℕ) → q ≢ page → get new q ≡ get old q) → new ≡ with_entry old page entry
+pub all_turned : (old new : FinMap nat_cmp Entry) (page : ℕ) (entry : Option Entry) → get new page ≡ entry
+    → ((q : ℕ) → q ≢ page → get new q ≡ get old q) → new ≡ with_entry old page entry
 all_turned old new page entry here others = same_map nat_cmp_total nat_cmp-IsAntisymmetric _ _ (λ q.
     elim (eqb_tells q page) [
       | inl t ↦ ap (get new) t.1 ∙ here ∙ sym (get_with_same old page entry) ∙ ap (get (with_entry old page entry)) (sym t.1)
@@ -36,7 +38,8 @@ all_turned old new page entry here others = same_map nat_cmp_total nat_cmp-IsAnt
     ])
 
 -- the pages of a directory index are gone, and others are as before
-pub dir_turned : (old new : FinMap nat_cmp Entry) (index : ℕ) → ((q : ℕ) → q / 1024 ≡ index → get new q ≡ None) → ((q : ℕ) → q / 1024 ≢ index → get new q ≡ get old q) → new ≡ without_dir old index
+pub dir_turned : (old new : FinMap nat_cmp Entry) (index : ℕ) → ((q : ℕ) → q / 1024 ≡ index → get new q ≡ None)
+    → ((q : ℕ) → q / 1024 ≢ index → get new q ≡ get old q) → new ≡ without_dir old index
 dir_turned old new index gone others = same_map nat_cmp_total nat_cmp-IsAntisymmetric _ _ (λ q.
     elim (eqb_tells (q / 1024) index) [
       | inl t ↦ gone q t.1 ∙ sym (dir_gone old index q t.1)
@@ -44,7 +47,8 @@ dir_turned old new index gone others = same_map nat_cmp_total nat_cmp-IsAntisymm
     ])
 
 -- a part of a set is one without the pages of a directory index
-pub dir_part : (part whole : FinMap nat_cmp Entry) (index : ℕ) → IsPartOf part whole → IsPartOf (without_dir part index) (without_dir whole index)
+pub dir_part : (part whole : FinMap nat_cmp Entry) (index : ℕ) → IsPartOf part whole
+    → IsPartOf (without_dir part index) (without_dir whole index)
 dir_part part whole index h = record {
   each = λ q x is.
       elim (eqb_tells (q / 1024) index) [
@@ -56,7 +60,8 @@ dir_part part whole index h = record {
 pub all_gone : (new : FinMap nat_cmp Entry) → ((q : ℕ) → get new q ≡ None) → new ≡ empty
 all_gone new gone = same_map nat_cmp_total nat_cmp-IsAntisymmetric _ _ (λ q. gone q ∙ sym (get-empty nat_cmp q))
 
-pub same_others : (old new : FinMap nat_cmp Entry) (page : ℕ) → ((q : ℕ) → q ≢ page → get new q ≡ get old q) → (q : ℕ) → q ≢ page → IsSameOrGone (get old q) (get new q)
+pub same_others : (old new : FinMap nat_cmp Entry) (page : ℕ) → ((q : ℕ) → q ≢ page → get new q ≡ get old q) → (q : ℕ) → q ≢ page
+    → IsSameOrGone (get old q) (get new q)
 same_others old new page h q n = inl (h q n)
 
 -- a part of a set that is within is within

@@ -38,7 +38,8 @@ abbrev pub same_flag : Bool → Bool → Bool
 same_flag a b = if a then b else not b
 
 abbrev pub same_entry : Entry → Entry → Bool
-same_entry a b = a.page == b.page && (a.frame == b.frame && (same_flag a.user b.user && (same_flag a.write b.write && same_flag a.dirty b.dirty)))
+same_entry a b =
+    a.page == b.page && (a.frame == b.frame && (same_flag a.user b.user && (same_flag a.write b.write && same_flag a.dirty b.dirty)))
 
 -- the entry that a page has now, where it had another one before, or none
 abbrev pub new_entry : (old now : Option Entry) → Option Entry

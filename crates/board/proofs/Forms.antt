@@ -87,7 +87,9 @@ count_fits period next left is_p is_n is_l =
           let p : is_period period ≡ true = rw e at is_p in
           let l : (nat_lt 0 left && nat_le left (8 * period)) ≡ true = rw e at is_l in
           let each = and_parts (nat_lt 0 left) (nat_le left (8 * period)) l in
-          rw e (and_from _ (nat_le left (8 * period)) (and_from _ (nat_lt 0 left) (and_from (is_period period) (is_next_period (period_of next)) p (next_fits next is_n)) each.0) each.1)
+          rw e (and_from _ (nat_le left (8 * period))
+          (and_from _ (nat_lt 0 left) (and_from (is_period period) (is_next_period (period_of next)) p (next_fits next is_n)) each.0)
+          each.1)
     ]
 
 pub form_count : (bytes : List ℕ) → board_form bytes ≡ true → is_count (timer_at bytes).count ≡ true
@@ -97,7 +99,8 @@ form_count bytes form =
     let c = and_parts (is_period_or_none (four_at bytes 16)) _ b.1 in
     let d = and_parts (is_period_or_none (four_at bytes 20)) _ c.1 in
     let e = and_parts (if four_at bytes 16 == 0 then four_at bytes 20 == 0 else true) _ d.1 in
-    let f = and_parts (if four_at bytes 16 == 0 then eight_at bytes 24 == 0 else nat_lt 0 (eight_at bytes 24) && nat_le (eight_at bytes 24) (8 * four_at bytes 16)) true e.1 in
+    let f = and_parts (if four_at bytes 16 == 0 then eight_at bytes 24 == 0 else nat_lt 0 (eight_at bytes 24) && nat_le (eight_at bytes 24)
+    (8 * four_at bytes 16)) true e.1 in
     count_fits (four_at bytes 16) (four_at bytes 20) (eight_at bytes 24) c.0 d.0 f.0
 
 pub form_port : (bytes : List ℕ) → length bytes ≡ 64 → board_form bytes ≡ true →
@@ -108,5 +111,9 @@ form_port bytes all form =
     let c = and_parts (nat_le (slice_index bytes 38) 16) _ b.1 in
     let few : slice_index bytes 38 ≤ 16 = leb-true (slice_index bytes 38) 16 c.0 in
     let long : length (waiting_at bytes) ≤ 16 =
-    omega (arith, length-take (39 + slice_index bytes 38 - 39) (drop 39 bytes), min-le_left (39 + slice_index bytes 38 - 39) (length (drop 39 bytes))) in
+    omega (
+      arith,
+      length-take (39 + slice_index bytes 38 - 39) (drop 39 bytes),
+      min-le_left (39 + slice_index bytes 38 - 39) (length (drop 39 bytes)),
+    ) in
     (and_from (nat_lt (slice_index bytes 34) 16) _ b.0 (le-leb (length (waiting_at bytes)) 16 long), few)

@@ -16,4 +16,5 @@ no_rise pics false = refl
 pub port_stays : (board : Board) (uart : Uart) (asked : Bool) → uart ≡ board.uart → asked ≡ interrupt_line board.uart →
     record { pics = edged board.pics serial_line (interrupt_line uart && not asked); pit = board.pit; uart = uart } ≡ board
 port_stays board uart asked same before =
-    rw (same, before) (ap (λ (pics : Pics). record { pics = pics; pit = board.pit; uart = board.uart }) (no_rise board.pics (interrupt_line board.uart)))
+    rw (same, before) (ap (λ (pics : Pics). record { pics = pics; pit = board.pit; uart = board.uart })
+    (no_rise board.pics (interrupt_line board.uart)))

@@ -57,7 +57,8 @@ pub events_later : EventsComeLater
 events_later script t j h = record { no_event = given_quiet t j script h; later = quiet_later t j script h }
 
 -- an edge, or none
-edge_or_none : (board : Board) (comes : Bool) → vector (record board { pics = edged board.pics 0 comes }) ≡ (if comes then vector (with_timer_edge board) else vector board)
+edge_or_none : (board : Board) (comes : Bool) → vector (record board { pics = edged board.pics 0 comes })
+    ≡ (if comes then vector (with_timer_edge board) else vector board)
 unfolding vector edged
 edge_or_none board true = refl
 edge_or_none board false = refl

@@ -91,7 +91,8 @@ selected_small InService = refl
 -- a chip whose seven bytes stand alone
 chip_back : (chip : Chip) → chip_at (chip_bytes chip) 0 ≡ chip
 chip_back chip =
-    let at : ChipPhase → Bool → Selected → Chip = λ phase once selected. record chip { phase = phase; once_ready = once; selected = selected } in
+    let at : ChipPhase → Bool → Selected → Chip =
+    λ phase once selected. record chip { phase = phase; once_ready = once; selected = selected } in
     ap (λ phase. at phase (worth chip.once_ready == 1) (selected_of (selected_number chip.selected))) (phase_back chip.phase)
     ∙ ap (λ once. at chip.phase once (selected_of (selected_number chip.selected))) (worth_back chip.once_ready)
     ∙ ap (λ selected. at chip.phase chip.once_ready selected) (selected_back chip.selected)
@@ -131,7 +132,8 @@ count_facts : (count : Count) → is_count (Some count) ≡ true →
     (2 ≤ count.period) × (count.period ≤ 65536) × (is_next_period count.next_period ≡ true) × (0 < count.left)
     × (count.left ≤ 8 * count.period) × ((count.period == 0) ≡ false)
 count_facts count fits =
-    let all = and_parts (is_period count.period && is_next_period count.next_period && nat_lt 0 count.left) (nat_le count.left (8 * count.period)) fits in
+    let all = and_parts (is_period count.period && is_next_period count.next_period && nat_lt 0 count.left)
+    (nat_le count.left (8 * count.period)) fits in
     let three = and_parts (is_period count.period && is_next_period count.next_period) (nat_lt 0 count.left) all.0 in
     let two = and_parts (is_period count.period) (is_next_period count.next_period) three.0 in
     let period : is_period count.period ≡ true = two.0 in
@@ -240,10 +242,12 @@ pub saved_back : (board : Board) → is_count board.pit.count ≡ true → board
 unfolding saved board_at
 saved_back board pit =
     let pair : Chip → Chip → Pair = λ master slave. record { master = master; slave = slave } in
-    let port : Bool → List ℕ → Registers = λ interrupt_enable kept. record board.uart { interrupt_enable = interrupt_enable; kept = kept } in
+    let port : Bool → List ℕ → Registers =
+    λ interrupt_enable kept. record board.uart { interrupt_enable = interrupt_enable; kept = kept } in
     let make : Pair → Timer → Registers → Board = λ pics pit uart. record { pics = pics; pit = pit; uart = uart } in
     let pics = two pair (chip_back board.pics.master) (chip_back board.pics.slave) in
-    let uart = two port (worth_back board.uart.interrupt_enable) (waiting_back board.uart.kept (replicate (25 - length board.uart.kept) 0)) in
+    let uart =
+    two port (worth_back board.uart.interrupt_enable) (waiting_back board.uart.kept (replicate (25 - length board.uart.kept) 0)) in
     two (λ x y. make x (timer_at (saved board)) y) pics uart
     ∙ ap (λ x. make board.pics x board.uart) (timer_back board board.pit pit)
 

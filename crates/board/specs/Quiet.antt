@@ -41,4 +41,5 @@ EventsComeLater = (script : Events) (t j : ℕ) → event_within t (suc j) scrip
 
 -- However many edges of the timer come, the vector that would be delivered is the one after a single edge.
 abbrev pub EdgesAreOne : Type 0
-EdgesAreOne = (k : ℕ) (board : Board) → vector (board_steps k board) ≡ (if edge_within k board.pit then vector (with_timer_edge board) else vector board)
+EdgesAreOne = (k : ℕ) (board : Board)
+    → vector (board_steps k board) ≡ (if edge_within k board.pit then vector (with_timer_edge board) else vector board)

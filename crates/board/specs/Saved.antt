@@ -62,7 +62,8 @@ timer_bytes timer =
 
 abbrev pub set_bytes : Registers → List ℕ
 set_bytes r =
-    worth r.interrupt_enable ∷ r.line_control ∷ r.modem_control ∷ r.scratch ∷ r.divisor_latch_low ∷ r.divisor_latch_high ∷ length r.kept ∷ []
+    worth r.interrupt_enable ∷ r.line_control ∷ r.modem_control ∷ r.scratch ∷ r.divisor_latch_low ∷ r.divisor_latch_high ∷ length
+    r.kept ∷ []
 
 abbrev pub waiting_bytes : List ℕ → List ℕ
 waiting_bytes kept = kept ++ replicate (25 - length kept) 0

@@ -68,11 +68,13 @@ pub record IsDrafted (rep : Bool) (name : List ℕ) (args : List Argument) (a : 
 abbrev ok_assembled : Assembled → Result Assembled Refusal
 ok_assembled a = Ok a
 
-operands_there : (o : Option Operands) (f : Operands → Option Draft) (d : Draft) → (o >>= f) ≡ Some d → (os : Operands) × (o ≡ Some os) × (f os ≡ Some d)
+operands_there : (o : Option Operands) (f : Operands → Option Draft) (d : Draft) → (o >>= f) ≡ Some d → (os : Operands)
+    × (o ≡ Some os) × (f os ≡ Some d)
 operands_there None f d e = absurd cc
 operands_there (Some os) f d e = (os, refl, e)
 
-by_draft_is : (rep : Bool) (name : List ℕ) (args : List Argument) (a : Assembled) (m : Mnemonic) → known_name name ≡ Some m → (o : Option Draft) → drafted_of rep m args ≡ o → by_draft args o ≡ Ok a → IsDrafted rep name args a
+by_draft_is : (rep : Bool) (name : List ℕ) (args : List Argument) (a : Assembled) (m : Mnemonic) → known_name name ≡ Some m
+    → (o : Option Draft) → drafted_of rep m args ≡ o → by_draft args o ≡ Ok a → IsDrafted rep name args a
 unfolding spelled drafted_of
 by_draft_is rep name args a m known None is e = absurd cc
 by_draft_is rep name args a m known (Some d) is e =
@@ -80,12 +82,14 @@ by_draft_is rep name args a m known (Some d) is e =
     let os = operands_there (operands_of args) (λ os. drafted rep m os) d is in
     record { mnemonic = m; known = known; operands = os.0; given = os.1; draft = d; drafted = os.2; spelling = s.0; chosen = s.1; is = s.2 }
 
-by_name_is : (rep : Bool) (name : List ℕ) (args : List Argument) (a : Assembled) (o : Option Mnemonic) → known_name name ≡ o → by_name rep args o ≡ Ok a → IsDrafted rep name args a
+by_name_is : (rep : Bool) (name : List ℕ) (args : List Argument) (a : Assembled) (o : Option Mnemonic) → known_name name ≡ o
+    → by_name rep args o ≡ Ok a → IsDrafted rep name args a
 unfolding by_mnemonic
 by_name_is rep name args a None is e = absurd cc
 by_name_is rep name args a (Some m) is e = by_draft_is rep name args a m is (drafted_of rep m args) refl e
 
-assembled_is : (rep : Bool) (name : List ℕ) (args : List Argument) (a : Assembled) → assembled rep name args ≡ Ok a → IsDrafted rep name args a
+assembled_is : (rep : Bool) (name : List ℕ) (args : List Argument) (a : Assembled) → assembled rep name args ≡ Ok a
+    → IsDrafted rep name args a
 unfolding assembled
 assembled_is rep name args a e = by_refused (is_some (found refused_names name)) e where
   by_refused : (b : Bool) → cond b (Err refusal.RefusedInstruction) (by_name rep args (known_name name)) ≡ Ok a → IsDrafted rep name args a
@@ -94,7 +98,8 @@ assembled_is rep name args a e = by_refused (is_some (found refused_names name))
 
 -- ---- the fields
 
-named_is : (named : Bool) (k : Option ℕ) (at : ℕ) (r : Bool) (f : Named) → named_field named k at r ≡ Some f → (named ≡ true) × (f.at ≡ at) × (f.relative ≡ r) × (k ≡ Some f.argument)
+named_is : (named : Bool) (k : Option ℕ) (at : ℕ) (r : Bool) (f : Named) → named_field named k at r ≡ Some f → (named ≡ true) × (f.at ≡ at)
+    × (f.relative ≡ r) × (k ≡ Some f.argument)
 named_is named None at r f e = absurd cc
 named_is true (Some j) at r f e =
     let same : record { at = at; argument = j; relative = r } ≡ f = cc in
@@ -116,10 +121,13 @@ three false b c h p q = absurd cc
 four_true : (n : ℕ) → n ≡ 4 → (n == 4) ≡ true
 four_true n e = ap (λ m. m == 4) e
 
-branch_row : (row : Row) → Contains rows row → is_direct_branch row.op ≡ true → imm_len row.form.immediate ≡ 4 → imm_size row.form.immediate ≡ 4
+branch_row : (row : Row) → Contains rows row → is_direct_branch row.op ≡ true → imm_len row.form.immediate ≡ 4
+    → imm_size row.form.immediate ≡ 4
 branch_row row c b four =
     let right : branch_long row ≡ true = sym (ap branch_long c.2) ∙ AllPass-from_list_all branch_long rows branches_long c.0 row c.1 in
-    eqb-true (imm_size row.form.immediate) 4 (three (is_direct_branch row.op) (imm_len row.form.immediate == 4) (imm_size row.form.immediate == 4) right b (four_true (imm_len row.form.immediate) four))
+    eqb-true (imm_size row.form.immediate) 4
+    (three (is_direct_branch row.op) (imm_len row.form.immediate == 4) (imm_size row.form.immediate == 4) right b
+    (four_true (imm_len row.form.immediate) four))
 
 -- the operand of a branch is the one argument, which names a symbol
 abbrev NotMemory : Option Given → Type 0
@@ -156,7 +164,8 @@ register_not name =
     not_or (by_long name) _ (not_bound (found long_registers name) (λ r. given.Register size.Long (number_of r)) (λ r. tt))
     (not_or (by_word name) _ (not_bound (found word_registers name) (λ n. given.Register size.Word n) (λ n. tt))
     (not_or (by_byte name) _ (not_bound (found byte_registers name) (λ n. given.Register size.Byte n) (λ n. tt))
-    (not_or (by_segment name) (by_control name) (not_bound (found segment_registers name) (λ s. given.Segment s) (λ s. tt)) (not_bound (found control_registers name) (λ n. given.Control n) (λ n. tt)))))
+    (not_or (by_segment name) (by_control name) (not_bound (found segment_registers name) (λ s. given.Segment s) (λ s. tt))
+    (not_bound (found control_registers name) (λ n. given.Control n) (λ n. tt)))))
 
 not_memory : (o : Option Given) (m : Memory) → o ≡ Some (given.Memory m) → NotMemory o → ⊥
 not_memory o m e h = subst NotMemory e h
@@ -164,34 +173,44 @@ not_memory o m e h = subst NotMemory e h
 abbrev some_given : Given → Option Given
 some_given g = Some g
 
-addressed : (b i : Option (Option Reg)) (scale : ℕ) (n : Number) (m : Memory) → (b >>= λ x. i >>= λ y. Some (address x y scale n)) ≡ some_given (given.Memory m) → (n ≡ m.displacement) × (m.address.disp ≡ field size.Long n.value)
+addressed : (b i : Option (Option Reg)) (scale : ℕ) (n : Number) (m : Memory) → (b >>= λ x. i >>= λ y. Some (address x y scale n))
+    ≡ some_given (given.Memory m) → (n ≡ m.displacement) × (m.address.disp ≡ field size.Long n.value)
 addressed None i scale n m e = absurd cc
 addressed (Some x) None scale n m e = absurd cc
-addressed (Some x) (Some y) scale n m e = let same : record { address = record { base = x; index = y; scale = scale; disp = field size.Long n.value }; displacement = n } ≡ m = cc in (ap (λ (k : Memory). k.displacement) same, sym (ap (λ (k : Memory). k.address.disp) same))
+addressed (Some x) (Some y) scale n m e =
+    let same : record { address = record { base = x; index = y; scale = scale; disp = field size.Long n.value }; displacement = n } ≡ m =
+    cc in (ap (λ (k : Memory). k.displacement) same, sym (ap (λ (k : Memory). k.address.disp) same))
 
 pub record IsNamed (f : ArgumentForm) (m : Memory) : Type 0 where
   pub argument : m.displacement.argument ≡ 0
   pub named : m.displacement.named ≡ is_some (symbol_in f)
   pub disp : m.address.disp ≡ field size.Long (constant_in f)
 
-named_value : (v : Option Value) (b i : Option (List ℕ)) (scale : ℕ) (m : Memory) → displacement v 0 ≡ m.displacement → m.address.disp ≡ field size.Long (displacement v 0).value → IsNamed (form.Memory v b i scale) m
-named_value (Some v) b i scale m e d = record { argument = sym (ap (λ (n : Number). n.argument) e); named = sym (ap (λ (n : Number). n.named) e); disp = d }
-named_value None b i scale m e d = record { argument = sym (ap (λ (n : Number). n.argument) e); named = sym (ap (λ (n : Number). n.named) e); disp = d }
+named_value : (v : Option Value) (b i : Option (List ℕ)) (scale : ℕ) (m : Memory) → displacement v 0 ≡ m.displacement
+    → m.address.disp ≡ field size.Long (displacement v 0).value → IsNamed (form.Memory v b i scale) m
+named_value (Some v) b i scale m e d =
+    record { argument = sym (ap (λ (n : Number). n.argument) e); named = sym (ap (λ (n : Number). n.named) e); disp = d }
+named_value None b i scale m e d =
+    record { argument = sym (ap (λ (n : Number). n.argument) e); named = sym (ap (λ (n : Number). n.named) e); disp = d }
 
 given_named : (f : ArgumentForm) (m : Memory) → given_by f 0 ≡ Some (given.Memory m) → IsNamed f m
 unfolding given_by memory_operand
 given_named (form.Register name) m e = absurd (not_memory (named_register name) m e (register_not name))
 given_named (form.Immediate v) m e = absurd cc
 given_named (form.Memory v base index scale) m e = by_port (is_none v && is_dx base && is_none index) e where
-  by_port : (b : Bool) → cond b (some_given given.Port) (address_register base >>= λ x. address_register index >>= λ y. Some (address x y scale (displacement v 0))) ≡ Some (given.Memory m) → IsNamed (form.Memory v base index scale) m
+  by_port : (b : Bool) → cond b (some_given given.Port)
+      (address_register base >>= λ x. address_register index >>= λ y. Some (address x y scale (displacement v 0))) ≡ Some (given.Memory m)
+      → IsNamed (form.Memory v base index scale) m
   by_port true e = absurd cc
-  by_port false e = let h = addressed (address_register base) (address_register index) scale (displacement v 0) m e in named_value v base index scale m h.0 h.1
+  by_port false e = let h =
+      addressed (address_register base) (address_register index) scale (displacement v 0) m e in named_value v base index scale m h.0 h.1
 given_named _ m e = absurd cc
 
 abbrev one_given : Given → Operands
 one_given g = operands.One g
 
-star_given : (star : Bool) (o : Option Given) (m : Memory) → (o >>= λ g. Some (if star then operands.Starred g else operands.One g)) ≡ Some (one_given (given.Memory m)) → o ≡ Some (given.Memory m)
+star_given : (star : Bool) (o : Option Given) (m : Memory) → (o >>= λ g. Some (if star then operands.Starred g else operands.One g)) ≡ Some
+    (one_given (given.Memory m)) → o ≡ Some (given.Memory m)
 star_given star None m e = absurd cc
 star_given true (Some g) m e = absurd cc
 star_given false (Some g) m e = let same : g ≡ given.Memory m = cc in ap (λ x. Some x) same
@@ -207,7 +226,8 @@ two_not_one None y m e = cc
 two_not_one (Some a) None m e = cc
 two_not_one (Some a) (Some b) m e = cc
 
-three_not_one : (x y z : Option Given) (m : Memory) → (x >>= λ a. y >>= λ b. z >>= λ c. Some (operands.Three a b c)) ≡ Some (one_given (given.Memory m)) → ⊥
+three_not_one : (x y z : Option Given) (m : Memory) → (x >>= λ a. y >>= λ b. z >>= λ c. Some (operands.Three a b c)) ≡ Some
+    (one_given (given.Memory m)) → ⊥
 three_not_one None y z m e = cc
 three_not_one (Some a) None z m e = cc
 three_not_one (Some a) (Some b) None m e = cc
@@ -276,32 +296,38 @@ imm_wide : (d : Draft) (args : List Argument) → (widths d args).imm ≡ names_
 unfolding widths
 imm_wide d args = refl
 
-symbol_there : (args : List Argument) (k : ℕ) (a : Argument) → slice_get args k ≡ Some a → is_some (symbol_in a.form) ≡ true → names_symbol args (Some k) ≡ true
+symbol_there : (args : List Argument) (k : ℕ) (a : Argument) → slice_get args k ≡ Some a → is_some (symbol_in a.form) ≡ true
+    → names_symbol args (Some k) ≡ true
 unfolding names_symbol
 symbol_there args k a e h = ap (λ (o : Option Argument). is_some (o >>= λ a. symbol_in a.form)) e ∙ h
 
 no_field : (named : Bool) (at : ℕ) (r : Bool) (k : Option ℕ) → k ≡ None → named_field named k at r ≡ None
 no_field named at r k e = ap (λ j. named_field named j at r) e
 
-one_field : (named : Bool) (at j : ℕ) (r : Bool) (k : Option ℕ) → named ≡ true → k ≡ Some j → named_field named k at r ≡ Some (record { at = at; argument = j; relative = r })
+one_field : (named : Bool) (at j : ℕ) (r : Bool) (k : Option ℕ) → named ≡ true → k ≡ Some j
+    → named_field named k at r ≡ Some (record { at = at; argument = j; relative = r })
 one_field named at j r k n e = ap (λ i. named_field named i at r) e ∙ ap (λ b. named_field b (Some j) at r) n
 
 abbrev whole_of : Draft → List Argument → ArrayBytes → Assembled
 whole_of d args s = whole d (widths d args) s
 
-whole_disp : (d : Draft) (args : List Argument) (s : ArrayBytes) → (whole_of d args s).disp ≡ named_field (widths d args).disp d.disp s.disp_at false
+whole_disp : (d : Draft) (args : List Argument) (s : ArrayBytes) → (whole_of d args s).disp ≡ named_field (widths d args).disp
+    d.disp s.disp_at false
 unfolding whole
 whole_disp d args s = refl
 
-whole_imm : (d : Draft) (args : List Argument) (s : ArrayBytes) → (whole_of d args s).imm ≡ named_field (widths d args).imm d.imm s.imm_at d.relative
+whole_imm : (d : Draft) (args : List Argument) (s : ArrayBytes) → (whole_of d args s).imm ≡ named_field (widths d args).imm
+    d.imm s.imm_at d.relative
 unfolding whole
 whole_imm d args s = refl
 
-whole_spelling : (d : Draft) (args : List Argument) (s : ArrayBytes) → ((whole_of d args s).spelling ≡ s) × ((whole_of d args s).insn ≡ d.insn)
+whole_spelling : (d : Draft) (args : List Argument) (s : ArrayBytes) → ((whole_of d args s).spelling ≡ s)
+    × ((whole_of d args s).insn ≡ d.insn)
 unfolding whole
 whole_spelling d args s = (refl, refl)
 
-branch_field : (d : Draft) (args : List Argument) (s : ArrayBytes) (os : Operands) → operands_of args ≡ Some os → IsBranch os d → (k : IsKnown (widths d args) d.insn s) → is_direct_branch d.insn.op ≡ true → BranchField args (whole_of d args s)
+branch_field : (d : Draft) (args : List Argument) (s : ArrayBytes) (os : Operands) → operands_of args ≡ Some os → IsBranch os d
+    → (k : IsKnown (widths d args) d.insn s) → is_direct_branch d.insn.op ≡ true → BranchField args (whole_of d args s)
 branch_field d args s os given b k branch =
     let m = b.memory in
     let one = one_named args m (given ∙ ap (λ x. Some x) b.one) in
@@ -310,11 +336,13 @@ branch_field d args s os given b k branch =
     let no_disp : d.disp ≡ None = ap (λ (x : Draft). x.disp) b.is ∙ symbol_disp b.name b.condition m in
     let imm : d.imm ≡ Some m.displacement.argument = ap (λ (x : Draft). x.imm) b.is ∙ symbol_imm b.name b.condition m in
     let relative : d.relative ≡ true = ap (λ (x : Draft). x.relative) b.is ∙ symbol_relative b.name b.condition m in
-    let wide : (widths d args).imm ≡ true = imm_wide d args ∙ ap (names_symbol args) imm ∙ symbol_there args m.displacement.argument one.argument one.there (ap is_some name.1) in
+    let wide : (widths d args).imm ≡ true = imm_wide d args ∙ ap (names_symbol args) imm
+    ∙ symbol_there args m.displacement.argument one.argument one.there (ap is_some name.1) in
     let size = branch_row k.row k.listed (ap is_direct_branch k.op ∙ branch) (k.imm_long wide) in
     let room = k.imm_room wide in
     let spelling = ap (λ (x : ArrayBytes). x.len) (whole_spelling d args s).0 in
-    let number : (whole_of d args s).insn.imm ≡ distance (field_of one.argument) = ap (λ (i : Insn). i.imm) (whole_spelling d args s).1 ∙ ap (λ (x : Draft). x.insn.imm) b.is ∙ symbol_number b.name b.condition m ∙ ap distance one.disp in
+    let number : (whole_of d args s).insn.imm ≡ distance (field_of one.argument) = ap (λ (i : Insn). i.imm) (whole_spelling d args s).1
+    ∙ ap (λ (x : Draft). x.insn.imm) b.is ∙ symbol_number b.name b.condition m ∙ ap distance one.disp in
     record {
       no_disp = whole_disp d args s ∙ no_field (widths d args).disp s.disp_at false d.disp no_disp;
       field = record { at = s.imm_at; argument = m.displacement.argument; relative = d.relative };
@@ -328,7 +356,8 @@ branch_field d args s os given b k branch =
       constant = number;
     }
 
-fielded : (d : Draft) (args : List Argument) (s : ArrayBytes) → IsKnown (widths d args) d.insn s → (is_direct_branch d.insn.op ≡ true → BranchField args (whole_of d args s)) → IsFielded args (whole_of d args s)
+fielded : (d : Draft) (args : List Argument) (s : ArrayBytes) → IsKnown (widths d args) d.insn s
+    → (is_direct_branch d.insn.op ≡ true → BranchField args (whole_of d args s)) → IsFielded args (whole_of d args s)
 unfolding whole
 fielded d args s k branch = record {
   row = k.row;
@@ -343,7 +372,8 @@ fielded d args s k branch = record {
   branch = branch;
 }
 
-pub assembled_fielded : (rep : Bool) (name : List ℕ) (args : List Argument) (a : Assembled) → assembled rep name args ≡ Ok a → IsFielded args a
+pub assembled_fielded : (rep : Bool) (name : List ℕ) (args : List Argument) (a : Assembled)
+    → assembled rep name args ≡ Ok a → IsFielded args a
 assembled_fielded rep name args a e =
     let h = assembled_is rep name args a e in
     let k = known (widths h.draft args) h.draft.insn h.spelling h.chosen in

@@ -74,7 +74,8 @@ begins_within cs at h b =
 -- ---- the end
 
 pub jump_insn : (c : Coded) → IsCoded c → c.bytes ≡ 0xEB ∷ 0xFE ∷ [] → insn_in c ≡ jump_to_itself
-jump_insn c h e = one_meaning (0xEB ∷ 0xFE ∷ []) (insn_in c) jump_to_itself (subst (λ bs. Spells bs (insn_in c)) e (coded_spelled c h)) jump_spelled
+jump_insn c h e =
+    one_meaning (0xEB ∷ 0xFE ∷ []) (insn_in c) jump_to_itself (subst (λ bs. Spells bs (insn_in c)) e (coded_spelled c h)) jump_spelled
 
 pub jump_padding : (c : Coded) → IsCoded c → c.bytes ≡ 0xEB ∷ 0xFE ∷ [] → padding c ≡ 0
 jump_padding c h e = ap (λ (i : Insn). nops_behind (sensitive_kind i) (length c.bytes)) (jump_insn c h e)
@@ -99,19 +100,23 @@ last_is ps p =
 abbrev jump_at : ℕ → Coded → Swept
 jump_at at c = record { at = at; len = length c.bytes; insn = insn_in c }
 
-swept_end : (body : List Chunk) (c : Coded) → IsCoded c → c.bytes ≡ 0xEB ∷ 0xFE ∷ [] → chunks_swept 0 (body ++ (Alone c ∷ [])) ≡ chunks_swept 0 body ++ (jump_at (length (chunks_text body)) c ∷ [])
+swept_end : (body : List Chunk) (c : Coded) → IsCoded c → c.bytes ≡ 0xEB ∷ 0xFE ∷ []
+    → chunks_swept 0 (body ++ (Alone c ∷ [])) ≡ chunks_swept 0 body ++ (jump_at (length (chunks_text body)) c ∷ [])
 unfolding chunks_swept
 swept_end body c h e =
     let at : 0 + length (chunks_text body) ≡ length (chunks_text body) = omega arith in
     swept_append 0 body (Alone c ∷ [])
     ∙ ap (λ n. chunks_swept 0 body ++ ((jump_at n c ∷ nops_at (n + length c.bytes) (padding c)) ++ [])) at
-    ∙ ap (λ (xs : List Swept). chunks_swept 0 body ++ ((jump_at (length (chunks_text body)) c ∷ xs) ++ [])) (no_nops (length (chunks_text body) + length c.bytes) (padding c) (jump_padding c h e))
+    ∙ ap (λ (xs : List Swept). chunks_swept 0 body ++ ((jump_at (length (chunks_text body)) c ∷ xs) ++ []))
+    (no_nops (length (chunks_text body) + length c.bytes) (padding c) (jump_padding c h e))
 
 byte_behind : (xs ys : List ℕ) (k : ℕ) → slice_index (xs ++ ys) (length xs + k) ≡ slice_index ys k
 byte_behind [] ys k = let e : 0 + k ≡ k = omega arith in ap (slice_index ys) e
-byte_behind (x ∷ xs) ys k = let e : suc (length xs) + k ≡ suc (length xs + k) = omega arith in ap (slice_index (x ∷ (xs ++ ys))) e ∙ byte_behind xs ys k
+byte_behind (x ∷ xs) ys k = let e : suc (length xs) + k ≡ suc (length xs + k) =
+    omega arith in ap (slice_index (x ∷ (xs ++ ys))) e ∙ byte_behind xs ys k
 
-ends_by : (text : List ℕ) (at : ℕ) → at + 2 ≡ length text → slice_index text at ≡ 0xEB → slice_index text (at + 1) ≡ 0xFE → ends_at text at ≡ true
+ends_by : (text : List ℕ) (at : ℕ) → at + 2 ≡ length text → slice_index text at ≡ 0xEB → slice_index text (at + 1) ≡ 0xFE
+    → ends_at text at ≡ true
 ends_by text at e f g = grind (arith, nat_tests)
 
 ends_so : (front : List ℕ) → ends_at (front ++ (0xEB ∷ 0xFE ∷ [])) (length front) ≡ true
@@ -123,22 +128,27 @@ ends_so front =
     let g : slice_index text (length front + 1) ≡ 0xFE = byte_behind front (0xEB ∷ 0xFE ∷ []) 1 in
     ends_by text (length front) e f g
 
-pub text_is : (body : List Chunk) (c : Coded) → IsCoded c → c.bytes ≡ 0xEB ∷ 0xFE ∷ [] → chunks_text (body ++ (Alone c ∷ [])) ≡ chunks_text body ++ (0xEB ∷ 0xFE ∷ [])
-text_is body c h e = text_append body (Alone c ∷ []) ∙ ap (λ xs. chunks_text body ++ xs) (append-nil (chunk_text (Alone c)) ∙ jump_text c h e)
+pub text_is : (body : List Chunk) (c : Coded) → IsCoded c → c.bytes ≡ 0xEB ∷ 0xFE ∷ [] → chunks_text (body ++ (Alone c ∷ [])) ≡ chunks_text
+    body ++ (0xEB ∷ 0xFE ∷ [])
+text_is body c h e =
+    text_append body (Alone c ∷ []) ∙ ap (λ xs. chunks_text body ++ xs) (append-nil (chunk_text (Alone c)) ∙ jump_text c h e)
 
 -- ---- the tests before that of targets, and after it
 
 right_place : (n m : ℕ) → n ≡ m → then_some {T = ℕ} (not (n == m)) 0 ≡ None
 right_place n m e = ap (λ b. then_some {T = ℕ} (not b) 0) (eq-eqb n m e)
 
-placed_by : (parts : ImageParts) → text_place parts ≡ None → init_place parts ≡ None → text_size parts ≡ None → init_size parts ≡ None → entry_place parts ≡ None → placed parts ≡ Ok tt
+placed_by : (parts : ImageParts) → text_place parts ≡ None → init_place parts ≡ None → text_size parts ≡ None → init_size parts ≡ None
+    → entry_place parts ≡ None → placed parts ≡ Ok tt
 unfolding placed
 placed_by parts a b c d e = rw (a, b, c, d, e) refl
 
 abbrev Outcome : ImageParts → List Site → Type 0
 Outcome parts sites = (image_from parts ≡ Ok (image_with parts sites)) ⊎ ((at : ℕ) × (image_from parts ≡ Err (Wrong at Target)))
 
-outcome : (parts : ImageParts) (sites : List Site) (ps : List Piece) → placed parts ≡ Ok tt → pieces_in parts.text ≡ Ok ps → text_end parts.text ps ≡ None → listed parts.sites ≡ Ok sites → site_wrong sites ps ≡ None → entry_start parts ps sites ≡ None → (o : Option ℕ) → wrong_target (is_entrance ps sites) ps ≡ o → Outcome parts sites
+outcome : (parts : ImageParts) (sites : List Site) (ps : List Piece) → placed parts ≡ Ok tt → pieces_in parts.text ≡ Ok ps
+    → text_end parts.text ps ≡ None → listed parts.sites ≡ Ok sites → site_wrong sites ps ≡ None → entry_start parts ps sites ≡ None
+    → (o : Option ℕ) → wrong_target (is_entrance ps sites) ps ≡ o → Outcome parts sites
 unfolding image_from annotated entered
 outcome parts sites ps place swept end read same entry None e = inl (rw (place, swept, end, read, same, e, entry) refl)
 outcome parts sites ps place swept end read same entry (Some at) e = inr (at, rw (place, swept, end, read, same, e) refl)

@@ -27,7 +27,8 @@ use Rattle.built_images.proofs.BurntObjects.{burnt_padded}
 
 -- ---- the file is read again
 
-small_enough : (p : ImageParts) → length p.text ≤ TEXT_LIMIT → length p.init + p.bss ≤ 33554432 → length p.sites ≤ 134217736 → IsWritableImage p
+small_enough : (p : ImageParts) → length p.text ≤ TEXT_LIMIT → length p.init + p.bss ≤ 33554432
+    → length p.sites ≤ 134217736 → IsWritableImage p
 unfolding init_from sites_from names_from sections_from
 small_enough p text room sites =
     let a : pad 4096 (4096 + length p.text) < 4096 = omega arith in
@@ -46,7 +47,8 @@ longs parts cs b =
     let init = b.init_at in
     record { entry = omega (arith, lt, len, ge, size); text_at = omega (arith, text); init_at = omega (arith, init) }
 
-read_back : (parts : ImageParts) (cs : List Chunk) → IsBuilt parts cs → length parts.sites ≤ 134217736 → length (image_bytes parts) ≤ 33554432 → image_in (image_bytes parts) ≡ Ok parts
+read_back : (parts : ImageParts) (cs : List Chunk) → IsBuilt parts cs → length parts.sites ≤ 134217736
+    → length (image_bytes parts) ≤ 33554432 → image_in (image_bytes parts) ≡ Ok parts
 read_back parts cs b sites small = read_again parts (small_enough parts b.size b.room sites) (longs parts cs b) small
 
 from_file : (r : Result ImageParts Fault) (parts : ImageParts) → r ≡ Ok parts → (as_form r >>= image_from) ≡ image_from parts
@@ -56,7 +58,8 @@ file_is : (file : List ℕ) (parts : ImageParts) → image_in file ≡ Ok parts 
 unfolding image_of
 file_is file parts e = from_file (image_in file) parts e
 
-accepts : (file : List ℕ) (parts : ImageParts) (cs : List Chunk) → IsBuilt parts cs → image_in file ≡ Ok parts → image_from parts ≡ Ok (image_with parts (chunk_sites 0 cs)) → Accepts file (image_with parts (chunk_sites 0 cs))
+accepts : (file : List ℕ) (parts : ImageParts) (cs : List Chunk) → IsBuilt parts cs → image_in file ≡ Ok parts
+    → image_from parts ≡ Ok (image_with parts (chunk_sites 0 cs)) → Accepts file (image_with parts (chunk_sites 0 cs))
 accepts file parts cs b read e = record {
   parts = parts;
   form = read_as file parts read;
@@ -81,18 +84,21 @@ all_burnt : (os : List ObjectParts) → AreBurntAlone os → AreBurnt os
 all_burnt [] h = tt
 all_burnt (o ∷ os) h = (h.0.0, all_burnt os h.1)
 
-by_outcome : (file : List ℕ) (parts : ImageParts) (cs : List Chunk) → IsBuilt parts cs → image_in file ≡ Ok parts → IsAcceptedButForTargets parts cs → IsAcceptedOrForTarget file
+by_outcome : (file : List ℕ) (parts : ImageParts) (cs : List Chunk) → IsBuilt parts cs → image_in file ≡ Ok parts
+    → IsAcceptedButForTargets parts cs → IsAcceptedOrForTarget file
 by_outcome file parts cs b read (inl e) = inl (image_with parts (chunk_sites 0 cs), accepts file parts cs b read e)
 by_outcome file parts cs b read (inr e) = inr (e.0, file_is file parts read ∙ e.1)
 
-pub accepted_or_target : (os : List ObjectParts) (parts : ImageParts) → AreBurnt os → linked_image os ≡ Ok parts → length (image_bytes parts) ≤ 33554432 → IsAcceptedOrForTarget (image_bytes parts)
+pub accepted_or_target : (os : List ObjectParts) (parts : ImageParts) → AreBurnt os → linked_image os ≡ Ok parts
+    → length (image_bytes parts) ≤ 33554432 → IsAcceptedOrForTarget (image_bytes parts)
 accepted_or_target os parts burnt linked small =
     let padded = any_padded os burnt in
     let b = linked_built os parts padded linked in
     let read = read_back parts b.0 b.1 (linked_sites_size os parts padded linked) small in
     by_outcome (image_bytes parts) parts b.0 b.1 read (accepted_but parts b.0 b.1)
 
-pub accepted : (os : List ObjectParts) (parts : ImageParts) → AreBurntAlone os → linked_image os ≡ Ok parts → length (image_bytes parts) ≤ 33554432 → (image : Image) × Accepts (image_bytes parts) image
+pub accepted : (os : List ObjectParts) (parts : ImageParts) → AreBurntAlone os → linked_image os ≡ Ok parts
+    → length (image_bytes parts) ≤ 33554432 → (image : Image) × Accepts (image_bytes parts) image
 accepted os parts burnt linked small =
     let b = linked_leads os parts (alone_padded os burnt) linked in
     let read = read_back parts b.0 b.1 (linked_sites_size os parts (any_padded os (all_burnt os burnt)) linked) small in

@@ -113,12 +113,14 @@ module _ (Plain : Type 0) where
   by_chunk_split P [] b h = (tt, h)
   by_chunk_split P (c ∷ a) b h = let s = by_chunk_split P a b h.1 in ((h.0, s.0), s.1)
 
-  pub relocs_append : (at : ℕ) (a b : List Chunk) → chunks_relocs at (a ++ b) ≡ chunks_relocs at a ++ chunks_relocs (at + length (chunks_text a)) b
+  pub relocs_append : (at : ℕ) (a b : List Chunk) → chunks_relocs at (a ++ b) ≡ chunks_relocs at a
+      ++ chunks_relocs (at + length (chunks_text a)) b
   unfolding chunks_relocs
   relocs_append at [] b = let e : at ≡ at + 0 = omega arith in ap (λ n. chunks_relocs n b) e
   relocs_append at (c ∷ a) b =
       let next = at + length (chunk_text c) in
-      let e : next + length (chunks_text a) ≡ at + length (chunk_text c ++ chunks_text a) = omega (arith, length-append (chunk_text c) (chunks_text a)) in
+      let e : next + length (chunks_text a) ≡ at + length (chunk_text c ++ chunks_text a) =
+      omega (arith, length-append (chunk_text c) (chunks_text a)) in
       ap (λ xs. chunk_relocs at c ++ xs) (relocs_append next a b)
       ∙ sym (append_assoc (chunk_relocs at c) (chunks_relocs next a) (chunks_relocs (next + length (chunks_text a)) b))
       ∙ ap (λ n. (chunk_relocs at c ++ chunks_relocs next a) ++ chunks_relocs n b) e
@@ -139,7 +141,8 @@ module _ (Plain : Type 0) where
   not_sti : (b : Bool) → b ≡ false → b ≡ true → ⊥
   not_sti b e f = cc
 
-  pub same_made : (st new : ObjectSoFar) (cs : List Chunk) → IsMade st cs → IsSameText st new → All (λ (r : Reloc). r.in_text ≡ false) new.data_relocs → All (IsLabel cs) new.definitions → IsMade new cs
+  pub same_made : (st new : ObjectSoFar) (cs : List Chunk) → IsMade st cs → IsSameText st new
+      → All (λ (r : Reloc). r.in_text ≡ false) new.data_relocs → All (IsLabel cs) new.definitions → IsMade new cs
   same_made st new cs h s data_is labels = record {
     read = h.read;
     fields = h.fields;
@@ -155,14 +158,20 @@ module _ (Plain : Type 0) where
   }
 
   -- NOPs at the end of the text
-  pub nops_made : (st : ObjectSoFar) (cs : List Chunk) (n : ℕ) → IsMade st cs → IsMade (record st { text = st.text ++ replicate n 144; after_sti = false }) (cs ++ nop_chunks n)
+  pub nops_made : (st : ObjectSoFar) (cs : List Chunk) (n : ℕ) → IsMade st cs
+      → IsMade (record st { text = st.text ++ replicate n 144; after_sti = false }) (cs ++ nop_chunks n)
   nops_made st cs n h = record {
     read = by_chunk_join IsReadChunk cs (nop_chunks n) h.read (chunks_read (nop_chunks n) (nop_chunks_are n));
     fields = by_chunk_join HasFields cs (nop_chunks n) h.fields (nop_chunks_fields n);
     branches = by_chunk_join IsLinkedBranch cs (nop_chunks n) h.branches (nop_chunks_linked n);
-    text = ap (λ bs. bs ++ replicate n 144) h.text ∙ ap (λ bs. chunks_text cs ++ bs) (sym (nop_chunks_text n)) ∙ sym (text_append cs (nop_chunks n));
-    sites = h.sites ∙ sym (sites_append 0 cs (nop_chunks n) ∙ ap (λ ss. chunk_sites 0 cs ++ ss) (nop_chunks_sites (0 + length (chunks_text cs)) n) ∙ append-nil (chunk_sites 0 cs));
-    relocs = h.relocs ∙ sym (relocs_append 0 cs (nop_chunks n) ∙ ap (λ rs. chunks_relocs 0 cs ++ rs) (nop_chunks_relocs (0 + length (chunks_text cs)) n) ∙ append-nil (chunks_relocs 0 cs));
+    text = ap (λ bs. bs ++ replicate n 144) h.text ∙ ap (λ bs. chunks_text cs ++ bs) (sym (nop_chunks_text n))
+        ∙ sym (text_append cs (nop_chunks n));
+    sites =
+        h.sites ∙ sym (sites_append 0 cs (nop_chunks n) ∙ ap (λ ss. chunk_sites 0 cs ++ ss)
+        (nop_chunks_sites (0 + length (chunks_text cs)) n) ∙ append-nil (chunk_sites 0 cs));
+    relocs =
+        h.relocs ∙ sym (relocs_append 0 cs (nop_chunks n) ∙ ap (λ rs. chunks_relocs 0 cs ++ rs)
+        (nop_chunks_relocs (0 + length (chunks_text cs)) n) ∙ append-nil (chunks_relocs 0 cs));
     in_text = h.in_text;
     in_data = h.in_data;
     labels = labels_more cs (nop_chunks n) st.definitions h.labels;
@@ -172,19 +181,24 @@ module _ (Plain : Type 0) where
 
   -- ---- an instruction
 
-  reloc_same : (names : List (List ℕ)) (at : ℕ) (f : Named) (name : Option (List ℕ)) → map (reloc_later at) (reloc_to names true (0 + f.at) f.relative name) ≡ reloc_to names true (at + f.at) f.relative name
+  reloc_same : (names : List (List ℕ)) (at : ℕ) (f : Named) (name : Option (List ℕ))
+      → map (reloc_later at) (reloc_to names true (0 + f.at) f.relative name) ≡ reloc_to names true (at + f.at) f.relative name
   reloc_same names at f None = refl
-  reloc_same names at f (Some name) = let e : at + (0 + f.at) ≡ at + f.at = omega arith in ap (λ (n : ℕ). record { in_text = true; at = n; symbol = name_number names name; relative = f.relative } ∷ []) e
+  reloc_same names at f (Some name) = let e : at + (0 + f.at) ≡ at + f.at =
+      omega arith in ap (λ (n : ℕ). record { in_text = true; at = n; symbol = name_number names name; relative = f.relative } ∷ []) e
 
-  field_same : (names : List (List ℕ)) (at : ℕ) (args : List Argument) (f : Option Named) → map (reloc_later at) (field_reloc names 0 args f) ≡ field_reloc names at args f
+  field_same : (names : List (List ℕ)) (at : ℕ) (args : List Argument) (f : Option Named)
+      → map (reloc_later at) (field_reloc names 0 args f) ≡ field_reloc names at args f
   field_same names at args None = refl
   field_same names at args (Some f) = reloc_same names at f (symbol_at args f.argument)
 
-  reloc_in_text : (names : List (List ℕ)) (at : ℕ) (f : Named) (name : Option (List ℕ)) → All (λ (r : Reloc). r.in_text ≡ true) (reloc_to names true (at + f.at) f.relative name)
+  reloc_in_text : (names : List (List ℕ)) (at : ℕ) (f : Named) (name : Option (List ℕ))
+      → All (λ (r : Reloc). r.in_text ≡ true) (reloc_to names true (at + f.at) f.relative name)
   reloc_in_text names at f None = All-nil (λ (r : Reloc). r.in_text ≡ true)
   reloc_in_text names at f (Some name) = All-cons (λ (r : Reloc). r.in_text ≡ true) _ [] refl (All-nil (λ (r : Reloc). r.in_text ≡ true))
 
-  field_in_text : (names : List (List ℕ)) (at : ℕ) (args : List Argument) (f : Option Named) → All (λ (r : Reloc). r.in_text ≡ true) (field_reloc names at args f)
+  field_in_text : (names : List (List ℕ)) (at : ℕ) (args : List Argument) (f : Option Named)
+      → All (λ (r : Reloc). r.in_text ≡ true) (field_reloc names at args f)
   field_in_text names at args None = All-nil (λ (r : Reloc). r.in_text ≡ true)
   field_in_text names at args (Some f) = reloc_in_text names at f (symbol_at args f.argument)
 
@@ -195,11 +209,13 @@ module _ (Plain : Type 0) where
   abbrev made_coded : List (List ℕ) → (args : List Argument) (a : Assembled) → IsFielded args a → Coded
   made_coded names args a f = record { row = f.row; parts = f.parts; bytes = spelling_bytes a; relocs = local_relocs names args a }
 
-  of_field : (P : ℕ → Type 0) (names : List (List ℕ)) (f : Named) (name : Option (List ℕ)) → P (0 + f.at) → AllByRecursion (λ (r : Reloc). P r.at) (reloc_to names true (0 + f.at) f.relative name)
+  of_field : (P : ℕ → Type 0) (names : List (List ℕ)) (f : Named) (name : Option (List ℕ)) → P (0 + f.at)
+      → AllByRecursion (λ (r : Reloc). P r.at) (reloc_to names true (0 + f.at) f.relative name)
   of_field P names f None h = tt
   of_field P names f (Some name) h = (h, tt)
 
-  of_fields : (P : ℕ → Type 0) (names : List (List ℕ)) (args : List Argument) (f : Option Named) → ((x : Named) → f ≡ Some x → P (0 + x.at)) → AllByRecursion (λ (r : Reloc). P r.at) (field_reloc names 0 args f)
+  of_fields : (P : ℕ → Type 0) (names : List (List ℕ)) (args : List Argument) (f : Option Named) → ((x : Named) → f ≡ Some x → P (0 + x.at))
+      → AllByRecursion (λ (r : Reloc). P r.at) (field_reloc names 0 args f)
   of_fields P names args None h = tt
   of_fields P names args (Some f) h = of_field P names f (symbol_at args f.argument) (h f refl)
 
@@ -207,7 +223,8 @@ module _ (Plain : Type 0) where
   by_reloc_join P [] b h k = k
   by_reloc_join P (c ∷ a) b h k = (h.0, by_reloc_join P a b h.1 k)
 
-  coded_fields : (names : List (List ℕ)) (args : List Argument) (a : Assembled) (f : IsFielded args a) → HasFields (Alone (made_coded names args a f))
+  coded_fields : (names : List (List ℕ)) (args : List Argument) (a : Assembled) (f : IsFielded args a)
+      → HasFields (Alone (made_coded names args a f))
   coded_fields names args a f =
       let c = made_coded names args a f in
       by_reloc_join (λ (r : Reloc). IsField c r.at) (field_reloc names 0 args a.disp) (field_reloc names 0 args a.imm)
@@ -218,10 +235,12 @@ module _ (Plain : Type 0) where
   unfolding insn_of
   row_op c = refl
 
-  symbol_got : (args : List Argument) (k : ℕ) (a : Argument) (name : List ℕ) → slice_get args k ≡ Some a → symbol_in a.form ≡ Some name → symbol_at args k ≡ Some name
+  symbol_got : (args : List Argument) (k : ℕ) (a : Argument) (name : List ℕ) → slice_get args k ≡ Some a → symbol_in a.form ≡ Some name
+      → symbol_at args k ≡ Some name
   symbol_got args k a name e f = ap (λ (o : Option Argument). symbol_in (Rattle.afterburner.specs.Arguments.form_of o)) e ∙ f
 
-  coded_branch : (names : List (List ℕ)) (args : List Argument) (a : Assembled) (f : IsFielded args a) → IsLinkedBranch (Alone (made_coded names args a f))
+  coded_branch : (names : List (List ℕ)) (args : List Argument) (a : Assembled) (f : IsFielded args a)
+      → IsLinkedBranch (Alone (made_coded names args a f))
   coded_branch names args a f = λ branch.
       let c = made_coded names args a f in
       let b = f.branch (ap is_direct_branch (sym (row_op c ∙ f.op)) ∙ branch) in
@@ -234,7 +253,8 @@ module _ (Plain : Type 0) where
         one =
             ap (λ x. field_reloc names 0 args x ++ field_reloc names 0 args a.imm) b.no_disp
             ∙ ap (field_reloc names 0 args) b.imm
-            ∙ ap (reloc_to names true (0 + b.field.at) b.field.relative) (symbol_got args b.field.argument b.argument b.name b.there b.named);
+            ∙ ap (reloc_to names true (0 + b.field.at) b.field.relative)
+            (symbol_got args b.field.argument b.argument b.name b.there b.named);
         in_text = refl;
         relative = b.relative;
         long = i.0;
@@ -247,10 +267,13 @@ module _ (Plain : Type 0) where
   sti_kind (Some site.Sti) e = refl
   sti_kind (Some _) e = absurd cc
 
-  kind_same : (names : List (List ℕ)) (args : List Argument) (a : Assembled) (f : IsFielded args a) → sensitive_kind (insn_in (made_coded names args a f)) ≡ sensitive_kind a.insn
+  kind_same : (names : List (List ℕ)) (args : List Argument) (a : Assembled) (f : IsFielded args a)
+      → sensitive_kind (insn_in (made_coded names args a f)) ≡ sensitive_kind a.insn
   kind_same names args a f = ap kind_of (row_op (made_coded names args a f) ∙ f.op)
 
-  pub added_made : (names : List (List ℕ)) (st : ObjectSoFar) (args : List Argument) (a : Assembled) (f : IsFielded args a) (cs : List Chunk) → (Plain → IsAlone (Alone (made_coded names args a f))) → IsMade st cs → IsMade (added names st args a) (cs ++ (Alone (made_coded names args a f) ∷ []))
+  pub added_made : (names : List (List ℕ)) (st : ObjectSoFar) (args : List Argument) (a : Assembled) (f : IsFielded args a)
+      (cs : List Chunk) → (Plain → IsAlone (Alone (made_coded names args a f))) → IsMade st cs
+      → IsMade (added names st args a) (cs ++ (Alone (made_coded names args a f) ∷ []))
   unfolding added chunk_sites chunks_relocs
   added_made names st args a f cs alone h =
       let c = made_coded names args a f in
@@ -271,19 +294,29 @@ module _ (Plain : Type 0) where
             ∙ sym (text_append cs (Alone c ∷ []));
         sites =
             ap (λ ss. ss ++ site_at (length st.text) (sensitive_kind a.insn) a.spelling.len) h.sites
-            ∙ ap (λ ss. chunk_sites 0 cs ++ ss) (ap (λ n. site_at n (sensitive_kind a.insn) a.spelling.len) (sym at) ∙ ap (site_at (0 + length (chunks_text cs)) (sensitive_kind a.insn)) (sym len) ∙ ap (λ o. site_at (0 + length (chunks_text cs)) o (length (spelling_bytes a))) (sym kind) ∙ sym (append-nil (chunk_site (0 + length (chunks_text cs)) (Alone c))))
+            ∙ ap (λ ss. chunk_sites 0 cs ++ ss)
+            (ap (λ n. site_at n (sensitive_kind a.insn) a.spelling.len) (sym at)
+            ∙ ap (site_at (0 + length (chunks_text cs)) (sensitive_kind a.insn)) (sym len)
+            ∙ ap (λ o. site_at (0 + length (chunks_text cs)) o (length (spelling_bytes a))) (sym kind)
+            ∙ sym (append-nil (chunk_site (0 + length (chunks_text cs)) (Alone c))))
             ∙ sym (sites_append 0 cs (Alone c ∷ []));
         relocs =
             append_assoc st.text_relocs (field_reloc names (length st.text) args a.disp) (field_reloc names (length st.text) args a.imm)
             ∙ ap (λ rs. rs ++ (field_reloc names (length st.text) args a.disp ++ field_reloc names (length st.text) args a.imm)) h.relocs
             ∙ ap (λ rs. chunks_relocs 0 cs ++ rs)
             (ap (λ n. field_reloc names n args a.disp ++ field_reloc names n args a.imm) (sym at)
-            ∙ ap (λ rs. rs ++ field_reloc names (0 + length (chunks_text cs)) args a.imm) (sym (field_same names (0 + length (chunks_text cs)) args a.disp))
-            ∙ ap (λ rs. map (reloc_later (0 + length (chunks_text cs))) (field_reloc names 0 args a.disp) ++ rs) (sym (field_same names (0 + length (chunks_text cs)) args a.imm))
-            ∙ sym (map-append (reloc_later (0 + length (chunks_text cs))) (field_reloc names 0 args a.disp) (field_reloc names 0 args a.imm))
+            ∙ ap (λ rs. rs ++ field_reloc names (0 + length (chunks_text cs)) args a.imm)
+            (sym (field_same names (0 + length (chunks_text cs)) args a.disp))
+            ∙ ap (λ rs. map (reloc_later (0 + length (chunks_text cs))) (field_reloc names 0 args a.disp) ++ rs)
+            (sym (field_same names (0 + length (chunks_text cs)) args a.imm))
+            ∙ sym (map-append (reloc_later (0 + length (chunks_text cs))) (field_reloc names 0 args a.disp)
+            (field_reloc names 0 args a.imm))
             ∙ sym (append-nil (chunk_relocs (0 + length (chunks_text cs)) (Alone c))))
             ∙ sym (relocs_append 0 cs (Alone c ∷ []));
-        in_text = All-append (λ (r : Reloc). r.in_text ≡ true) (st.text_relocs ++ field_reloc names (length st.text) args a.disp) (field_reloc names (length st.text) args a.imm) (All-append (λ (r : Reloc). r.in_text ≡ true) st.text_relocs (field_reloc names (length st.text) args a.disp) h.in_text (field_in_text names (length st.text) args a.disp)) (field_in_text names (length st.text) args a.imm);
+        in_text = All-append (λ (r : Reloc). r.in_text ≡ true) (st.text_relocs ++ field_reloc names (length st.text) args a.disp)
+            (field_reloc names (length st.text) args a.imm)
+            (All-append (λ (r : Reloc). r.in_text ≡ true) st.text_relocs (field_reloc names (length st.text) args a.disp) h.in_text
+            (field_in_text names (length st.text) args a.disp)) (field_in_text names (length st.text) args a.imm);
         in_data = h.in_data;
         labels = labels_more cs (Alone c ∷ []) st.definitions h.labels;
         sti = λ e. record { before = cs; last = c; parts = refl; kind = kind ∙ sti_kind (sensitive_kind a.insn) e };
@@ -305,18 +338,22 @@ module _ (Plain : Type 0) where
         | inr x ↦ let four = x.0 in omega (arith, i, four)
       ]
 
-  sti_relocs : (c : Coded) (rs : List Reloc) → IsReadCoded c → sensitive_kind (insn_in c) ≡ Some site.Sti → AllByRecursion (λ (r : Reloc). IsField c r.at) rs → rs ≡ []
+  sti_relocs : (c : Coded) (rs : List Reloc) → IsReadCoded c → sensitive_kind (insn_in c) ≡ Some site.Sti
+      → AllByRecursion (λ (r : Reloc). IsField c r.at) rs → rs ≡ []
   sti_relocs c [] h e f = refl
   sti_relocs c (r ∷ rs) h e f = absurd (no_sti_field c r.at h e f.0)
 
-  sti_text : (c : Coded) → IsReadCoded c → sensitive_kind (insn_in c) ≡ Some site.Sti → chunk_text (Alone c) ≡ 0xFB ∷ 0x90 ∷ 0x90 ∷ 0x90 ∷ 0x90 ∷ []
+  sti_text : (c : Coded) → IsReadCoded c → sensitive_kind (insn_in c) ≡ Some site.Sti
+      → chunk_text (Alone c) ≡ 0xFB ∷ 0x90 ∷ 0x90 ∷ 0x90 ∷ 0x90 ∷ []
   sti_text c h e =
       let b = sti_chunk c h e in
       let pad : padding c ≡ 4 = ap (λ o. nops_behind o (length c.bytes)) e ∙ ap (λ (bs : List ℕ). 5 - length bs) b in
       ap (λ n. c.bytes ++ replicate n 0x90) pad ∙ ap (λ bs. bs ++ replicate 4 0x90) b
 
-  sti_site : (at : ℕ) (c : Coded) → IsReadCoded c → sensitive_kind (insn_in c) ≡ Some site.Sti → chunk_site at (Alone c) ≡ record { at = at; kind = site.Sti; len = 1; total = 5 } ∷ []
-  sti_site at c h e = ap (λ o. site_at at o (length c.bytes)) e ∙ ap (λ (bs : List ℕ). site_at at (Some site.Sti) (length bs)) (sti_chunk c h e)
+  sti_site : (at : ℕ) (c : Coded) → IsReadCoded c → sensitive_kind (insn_in c) ≡ Some site.Sti
+      → chunk_site at (Alone c) ≡ record { at = at; kind = site.Sti; len = 1; total = 5 } ∷ []
+  sti_site at c h e =
+      ap (λ o. site_at at o (length c.bytes)) e ∙ ap (λ (bs : List ℕ). site_at at (Some site.Sti) (length bs)) (sti_chunk c h e)
 
   -- an edge stays where the last chunk is exchanged for one as long
   abbrev Edges : List Chunk → List Chunk → Type 0
@@ -326,14 +363,17 @@ module _ (Plain : Type 0) where
   none_behind c x [] r e = (cc, refl)
   none_behind c x (d ∷ b) r e = absurd cc
 
-  swapped : (x y : Chunk) (before b r : List Chunk) → length (chunk_text y) ≡ length (chunk_text x) → before ++ (x ∷ []) ≡ b ++ r → Edges (before ++ (y ∷ [])) b
+  swapped : (x y : Chunk) (before b r : List Chunk) → length (chunk_text y) ≡ length (chunk_text x) → before ++ (x ∷ []) ≡ b ++ r
+      → Edges (before ++ (y ∷ [])) b
   swapped x y before [] r len e = ([], before ++ (y ∷ []), refl, refl)
   swapped x y [] (c ∷ b) r len e =
       let n = none_behind c x b r e in (
         y ∷ [],
         [],
         refl,
-        length-append (chunk_text y) [] ∙ ap (λ k. k + 0) len ∙ sym (ap (λ (ds : List Chunk). length (chunk_text c ++ chunks_text ds)) n.1 ∙ ap (λ (d : Chunk). length (chunk_text d ++ [])) n.0 ∙ length-append (chunk_text x) []),
+        length-append (chunk_text y) [] ∙ ap (λ k. k + 0) len
+            ∙ sym (ap (λ (ds : List Chunk). length (chunk_text c ++ chunks_text ds)) n.1 ∙ ap (λ (d : Chunk). length (chunk_text d ++ []))
+            n.0 ∙ length-append (chunk_text x) []),
       )
   swapped x y (a ∷ before) (c ∷ b) r len e =
       let same : a ≡ c = cc in
@@ -345,15 +385,18 @@ module _ (Plain : Type 0) where
       let one = ap (λ (d : Chunk). length (chunk_text d)) same in
       (a ∷ s.0, s.1, ap (λ (ds : List Chunk). a ∷ ds) s.2, omega (arith, l, m, k, one))
 
-  edge_swapped : (x y : Chunk) (before : List Chunk) (v : ℕ) → length (chunk_text y) ≡ length (chunk_text x) → IsEdge (before ++ (x ∷ [])) v → IsEdge (before ++ (y ∷ [])) v
+  edge_swapped : (x y : Chunk) (before : List Chunk) (v : ℕ) → length (chunk_text y) ≡ length (chunk_text x) → IsEdge (before ++ (x ∷ [])) v
+      → IsEdge (before ++ (y ∷ [])) v
   edge_swapped x y before v len e =
       let s = swapped x y before e.before e.behind len e.parts in
       record { before = s.0; behind = s.1; parts = s.2; place = e.place ∙ sym s.3 }
 
-  set_hlt : (front : List ℕ) (text : List ℕ) → text ≡ front ++ (0xFB ∷ 0x90 ∷ 0x90 ∷ 0x90 ∷ 0x90 ∷ []) → slice_set text (length text - 4) 244 ≡ front ++ (0xFB ∷ 0xF4 ∷ 0x90 ∷ 0x90 ∷ 0x90 ∷ [])
+  set_hlt : (front : List ℕ) (text : List ℕ) → text ≡ front ++ (0xFB ∷ 0x90 ∷ 0x90 ∷ 0x90 ∷ 0x90 ∷ [])
+      → slice_set text (length text - 4) 244 ≡ front ++ (0xFB ∷ 0xF4 ∷ 0x90 ∷ 0x90 ∷ 0x90 ∷ [])
   set_hlt front text e =
       let p = front ++ (0xFB ∷ []) in
-      let split : text ≡ p ++ (0x90 ∷ (0x90 ∷ 0x90 ∷ 0x90 ∷ [])) = e ∙ sym (append_assoc front (0xFB ∷ []) (0x90 ∷ 0x90 ∷ 0x90 ∷ 0x90 ∷ [])) in
+      let split : text ≡ p ++ (0x90 ∷ (0x90 ∷ 0x90 ∷ 0x90 ∷ [])) =
+      e ∙ sym (append_assoc front (0xFB ∷ []) (0x90 ∷ 0x90 ∷ 0x90 ∷ 0x90 ∷ [])) in
       let l = ap length e ∙ length-append front (0xFB ∷ 0x90 ∷ 0x90 ∷ 0x90 ∷ 0x90 ∷ []) in
       let m = length-append front (0xFB ∷ []) in
       let at : length text - 4 ≡ length p = omega (arith, l, m) in
@@ -362,17 +405,20 @@ module _ (Plain : Type 0) where
       ∙ set_at p 0x90 (0x90 ∷ 0x90 ∷ 0x90 ∷ []) 244 (length p) refl
       ∙ append_assoc front (0xFB ∷ []) (0xF4 ∷ 0x90 ∷ 0x90 ∷ 0x90 ∷ [])
 
-  set_site : (front : List Site) (s : Site) (ss : List Site) → ss ≡ front ++ (s ∷ []) → slice_set ss (length ss - 1) (pair_site (slice_index_or ss (length ss - 1) no_site)) ≡ front ++ (pair_site s ∷ [])
+  set_site : (front : List Site) (s : Site) (ss : List Site) → ss ≡ front ++ (s ∷ [])
+      → slice_set ss (length ss - 1) (pair_site (slice_index_or ss (length ss - 1) no_site)) ≡ front ++ (pair_site s ∷ [])
   set_site front s ss e =
       let l = ap length e ∙ length-append front (s ∷ []) in
       let at : length ss - 1 ≡ length front = omega (arith, l) in
-      let got : slice_index_or ss (length ss - 1) no_site ≡ s = ap (λ n. slice_index_or ss n no_site) at ∙ ap (λ (xs : List Site). slice_index_or xs (length front) no_site) e ∙ get_or_at front s [] no_site (length front) refl in
+      let got : slice_index_or ss (length ss - 1) no_site ≡ s = ap (λ n. slice_index_or ss n no_site) at
+      ∙ ap (λ (xs : List Site). slice_index_or xs (length front) no_site) e ∙ get_or_at front s [] no_site (length front) refl in
       ap (λ x. slice_set ss (length ss - 1) (pair_site x)) got
       ∙ ap (λ n. slice_set ss n (pair_site s)) at
       ∙ ap (λ (xs : List Site). slice_set xs (length front) (pair_site s)) e
       ∙ set_at front s [] (pair_site s) (length front) refl
 
-  paired_by : (st : ObjectSoFar) (before : List Chunk) (last : Coded) → sensitive_kind (insn_in last) ≡ Some site.Sti → IsMade st (before ++ (Alone last ∷ [])) → IsMade (paired st) (before ++ (Pair ∷ []))
+  paired_by : (st : ObjectSoFar) (before : List Chunk) (last : Coded) → sensitive_kind (insn_in last) ≡ Some site.Sti
+      → IsMade st (before ++ (Alone last ∷ [])) → IsMade (paired st) (before ++ (Pair ∷ []))
   unfolding paired chunk_sites chunks_relocs
   paired_by st before last kind h =
       let read = by_chunk_split IsReadChunk before (Alone last ∷ []) h.read in
@@ -387,11 +433,14 @@ module _ (Plain : Type 0) where
         fields = by_chunk_join HasFields before (Pair ∷ []) fields.0 (tt, tt);
         branches = by_chunk_join IsLinkedBranch before (Pair ∷ []) branches.0 (tt, tt);
         text =
-            set_hlt (chunks_text before) st.text (h.text ∙ text_append before (Alone last ∷ []) ∙ ap (λ bs. chunks_text before ++ bs) (append-nil (chunk_text (Alone last)) ∙ text))
+            set_hlt (chunks_text before) st.text
+            (h.text ∙ text_append before (Alone last ∷ []) ∙ ap (λ bs. chunks_text before ++ bs)
+            (append-nil (chunk_text (Alone last)) ∙ text))
             ∙ sym (text_append before (Pair ∷ []));
         sites =
             set_site (chunk_sites 0 before) (record { at = at; kind = site.Sti; len = 1; total = 5 }) st.sites
-            (h.sites ∙ sites_append 0 before (Alone last ∷ []) ∙ ap (λ ss. chunk_sites 0 before ++ ss) (append-nil (chunk_site at (Alone last)) ∙ sti_site at last coded kind))
+            (h.sites ∙ sites_append 0 before (Alone last ∷ []) ∙ ap (λ ss. chunk_sites 0 before ++ ss)
+            (append-nil (chunk_site at (Alone last)) ∙ sti_site at last coded kind))
             ∙ sym (sites_append 0 before (Pair ∷ []));
         relocs =
             h.relocs
@@ -400,7 +449,8 @@ module _ (Plain : Type 0) where
             ∙ sym (relocs_append 0 before (Pair ∷ []));
         in_text = h.in_text;
         in_data = h.in_data;
-        labels = All-weaker (IsLabel (before ++ (Alone last ∷ []))) (IsLabel (before ++ (Pair ∷ []))) (λ d k t. edge_swapped (Alone last) Pair before d.value len (k t)) st.definitions h.labels;
+        labels = All-weaker (IsLabel (before ++ (Alone last ∷ []))) (IsLabel (before ++ (Pair ∷ [])))
+            (λ d k t. edge_swapped (Alone last) Pair before d.value len (k t)) st.definitions h.labels;
         sti = λ e. absurd cc;
         alone = λ p. by_chunk_join IsAlone before (Pair ∷ []) (by_chunk_split IsAlone before (Alone last ∷ []) (h.alone p)).0 (tt, tt);
       }
@@ -410,30 +460,40 @@ module _ (Plain : Type 0) where
       let e = h.sti sti in
       (e.before ++ (Pair ∷ []), paired_by st e.before e.last e.kind (subst (IsMade st) e.parts h))
 
-  placed_made : (names : List (List ℕ)) (st : ObjectSoFar) (args : List Argument) (a : Assembled) (cs : List Chunk) (f : IsFielded args a) → (Plain → IsAlone (Alone (made_coded names args a f))) → IsMade st cs → Made (placed names st args a)
+  placed_made : (names : List (List ℕ)) (st : ObjectSoFar) (args : List Argument) (a : Assembled) (cs : List Chunk) (f : IsFielded args a)
+      → (Plain → IsAlone (Alone (made_coded names args a f))) → IsMade st cs → Made (placed names st args a)
   placed_made names st args a cs f alone h = by_sti st.after_sti (is_hlt (sensitive_kind a.insn)) refl where
     by_sti : (b c : Bool) → st.after_sti ≡ b → Made (cond (b && c) (paired st) (added names st args a))
     by_sti true true e = paired_made st cs e h
     by_sti true false e = (cs ++ (Alone (made_coded names args a f) ∷ []), added_made names st args a f cs alone h)
     by_sti false c e = (cs ++ (Alone (made_coded names args a f) ∷ []), added_made names st args a f cs alone h)
 
-  coded_alone : (names : List (List ℕ)) (args : List Argument) (a : Assembled) (f : IsFielded args a) → (is_direct_branch a.insn.op ≡ true → AllByRecursion (λ (x : Argument). number_in x.form ≡ pos 0) args) → IsAlone (Alone (made_coded names args a f))
+  coded_alone : (names : List (List ℕ)) (args : List Argument) (a : Assembled) (f : IsFielded args a)
+      → (is_direct_branch a.insn.op ≡ true → AllByRecursion (λ (x : Argument). number_in x.form ≡ pos 0) args)
+      → IsAlone (Alone (made_coded names args a f))
   coded_alone names args a f none = λ branch.
       let on = ap is_direct_branch (sym (row_op (made_coded names args a f) ∙ f.op)) ∙ branch in
       let b = f.branch on in
       let zero_is = number_there args b.field.argument b.argument b.there (none on) in
       f.number ∙ b.constant ∙ ap (λ z. distance (field size.Long z)) zero_is where
-        number_there : (args : List Argument) (k : ℕ) (a : Argument) → slice_get args k ≡ Some a → AllByRecursion (λ (x : Argument). number_in x.form ≡ pos 0) args → number_in a.form ≡ pos 0
+        number_there : (args : List Argument) (k : ℕ) (a : Argument) → slice_get args k ≡ Some a
+            → AllByRecursion (λ (x : Argument). number_in x.form ≡ pos 0) args → number_in a.form ≡ pos 0
         number_there [] k a e h = absurd cc
         number_there (x ∷ args) zero a e h = let same : x ≡ a = cc in subst (λ (y : Argument). number_in y.form ≡ pos 0) same h.0
         number_there (x ∷ args) (suc k) a e h = number_there args k a e h.1
 
-  in_text_made : (names : List (List ℕ)) (rep : Bool) (name : List ℕ) (st new : ObjectSoFar) (args : List Argument) (cs : List Chunk) → (Plain → NamesNoNumber (body.Instruction rep name args)) → IsMade st cs → (r : Result Assembled Refusal) → assembled rep name args ≡ r → in_text names st args r ≡ Ok new → Made new
+  in_text_made : (names : List (List ℕ)) (rep : Bool) (name : List ℕ) (st new : ObjectSoFar) (args : List Argument) (cs : List Chunk)
+      → (Plain → NamesNoNumber (body.Instruction rep name args)) → IsMade st cs → (r : Result Assembled Refusal)
+      → assembled rep name args ≡ r → in_text names st args r ≡ Ok new → Made new
   in_text_made names rep name st new args cs plain h (Err r) is e = absurd cc
   in_text_made names rep name st new args cs plain h (Ok a) is e =
       let same = or_ok (is_text st.section) cause.DataInText (placed names st args a) new e in
-      subst Made same (placed_made names st args a cs (assembled_fielded rep name args a is) (λ p. coded_alone names args a (assembled_fielded rep name args a is) (plain p a is)) h)
+      subst Made same (placed_made names st args a cs (assembled_fielded rep name args a is)
+      (λ p. coded_alone names args a (assembled_fielded rep name args a is) (plain p a is)) h)
 
-  pub instruction_made : (names : List (List ℕ)) (rep : Bool) (name : List ℕ) (st new : ObjectSoFar) (args : List Argument) (cs : List Chunk) → (Plain → NamesNoNumber (body.Instruction rep name args)) → IsMade st cs → instruction names st rep name args ≡ Ok new → Made new
+  pub instruction_made : (names : List (List ℕ)) (rep : Bool) (name : List ℕ) (st new : ObjectSoFar) (args : List Argument)
+      (cs : List Chunk) → (Plain → NamesNoNumber (body.Instruction rep name args)) → IsMade st cs
+      → instruction names st rep name args ≡ Ok new → Made new
   unfolding instruction
-  instruction_made names rep name st new args cs plain h e = in_text_made names rep name st new args cs plain h (assembled rep name args) refl e
+  instruction_made names rep name st new args cs plain h e =
+      in_text_made names rep name st new args cs plain h (assembled rep name args) refl e

@@ -43,15 +43,21 @@ record IsFound (table : List Row) (wide : Wide) (insn : Insn) (s : ArrayBytes) :
   suits : does_suit row wide insn ≡ true
   text : s ≡ laid_out row.form (parts_for row wide.disp insn)
 
-found_further : (r : Row) (table : List Row) (wide : Wide) (insn : Insn) (s : ArrayBytes) → IsFound table wide insn s → IsFound (r ∷ table) wide insn s
-found_further r table wide insn s h = record { row = h.row; listed = (suc h.listed.0, omega (arith, h.listed.1), h.listed.2); suits = h.suits; text = h.text }
+found_further : (r : Row) (table : List Row) (wide : Wide) (insn : Insn) (s : ArrayBytes) → IsFound table wide insn s
+    → IsFound (r ∷ table) wide insn s
+found_further r table wide insn s h =
+    record { row = h.row; listed = (suc h.listed.0, omega (arith, h.listed.1), h.listed.2); suits = h.suits; text = h.text }
 
-found_row : (table : List Row) (wide : Wide) (insn : Insn) (s : ArrayBytes) → chosen_from table wide insn ≡ Some s → IsFound table wide insn s
+found_row : (table : List Row) (wide : Wide) (insn : Insn) (s : ArrayBytes) → chosen_from table wide insn ≡ Some s
+    → IsFound table wide insn s
 unfolding chosen_from
 found_row [] wide insn s e = absurd cc
 found_row (r ∷ table) wide insn s e = by_test (does_suit r wide insn) refl (found_row table wide insn s) e where
-  by_test : (b : Bool) → does_suit r wide insn ≡ b → (chosen_from table wide insn ≡ Some s → IsFound table wide insn s) → cond b (some_bytes (laid_out r.form (parts_for r wide.disp insn))) (chosen_from table wide insn) ≡ Some s → IsFound (r ∷ table) wide insn s
-  by_test true is later e = let same : laid_out r.form (parts_for r wide.disp insn) ≡ s = cc in record { row = r; listed = (0, omega arith, refl); suits = is; text = sym same }
+  by_test : (b : Bool) → does_suit r wide insn ≡ b → (chosen_from table wide insn ≡ Some s → IsFound table wide insn s)
+      → cond b (some_bytes (laid_out r.form (parts_for r wide.disp insn))) (chosen_from table wide insn) ≡ Some s
+      → IsFound (r ∷ table) wide insn s
+  by_test true is later e = let same : laid_out r.form (parts_for r wide.disp insn) ≡ s =
+      cc in record { row = r; listed = (0, omega arith, refl); suits = is; text = sym same }
   by_test false is later e = found_further r table wide insn s (later e)
 
 laid_row : (wide : Wide) (insn : Insn) (s : ArrayBytes) → chosen wide insn ≡ Some s → IsLaid wide insn s
@@ -62,8 +68,10 @@ laid_row wide insn s e = let f = found_row rows wide insn s e in record { row = 
 same_ops : (i j : Insn) → same_insn i j ≡ true → i.op ≡ j.op
 unfolding same_insn
 same_ops i j h =
-    let f = and_parts (same_op i.op j.op && same_size i.size j.size && same_operand i.a j.a && same_operand i.b j.b && i.imm == j.imm && i.sel == j.sel) (beq i.rep j.rep) h in
-    let s = and_parts (same_op i.op j.op && same_size i.size j.size && same_operand i.a j.a && same_operand i.b j.b && i.imm == j.imm) (i.sel == j.sel) f.0 in
+    let f = and_parts (same_op i.op j.op && same_size i.size j.size && same_operand i.a j.a && same_operand i.b j.b && i.imm == j.imm
+    && i.sel == j.sel) (beq i.rep j.rep) h in
+    let s = and_parts (same_op i.op j.op && same_size i.size j.size && same_operand i.a j.a && same_operand i.b j.b && i.imm == j.imm)
+    (i.sel == j.sel) f.0 in
     let n = and_parts (same_op i.op j.op && same_size i.size j.size && same_operand i.a j.a && same_operand i.b j.b) (i.imm == j.imm) s.0 in
     let b = and_parts (same_op i.op j.op && same_size i.size j.size && same_operand i.a j.a) (same_operand i.b j.b) n.0 in
     let a = and_parts (same_op i.op j.op && same_size i.size j.size) (same_operand i.a j.a) b.0 in
@@ -114,10 +122,12 @@ known wide insn s e =
     let bytes = form_bytes row.form p in
     let head = head_bytes row.form p in
     let imms = immediate_bytes row.form.immediate p in
-    let a = and_parts (same_insn (insn_of row p) insn && form_fits row.form p) (widths_fit wide p.disp_len (imm_len row.form.immediate)) l.suits in
+    let a = and_parts (same_insn (insn_of row p) insn && form_fits row.form p)
+    (widths_fit wide p.disp_len (imm_len row.form.immediate)) l.suits in
     let b = and_parts (same_insn (insn_of row p) insn) (form_fits row.form p) a.0 in
     let w = and_parts (not wide.disp || p.disp_len == 4) (not wide.imm || imm_len row.form.immediate == 4) a.1 in
-    let text : take s.len s.bytes ≡ bytes = ap (λ (t : ArrayBytes). take t.len t.bytes) l.text ∙ take_at bytes (replicate (16 - length bytes) 0) (length bytes) refl in
+    let text : take s.len s.bytes ≡ bytes =
+    ap (λ (t : ArrayBytes). take t.len t.bytes) l.text ∙ take_at bytes (replicate (16 - length bytes) 0) (length bytes) refl in
     let len : s.len ≡ length bytes = ap (λ (t : ArrayBytes). t.len) l.text in
     let size = imm_bytes_size row.form.immediate p in
     let whole_len : length bytes ≡ length head + imm_size row.form.immediate = length-append head imms ∙ ap (λ n. length head + n) size in
@@ -138,10 +148,12 @@ known wide insn s e =
       imm_long = λ t. width_of wide.imm (imm_len row.form.immediate) w.1 t;
       imm_at = λ t.
           let four = width_of wide.imm (imm_len row.form.immediate) w.1 t in
-          let at : s.imm_at ≡ length head = ap (λ (x : ArrayBytes). x.imm_at) l.text ∙ at_imm (imm_len row.form.immediate) (length head) four in
+          let at : s.imm_at ≡ length head =
+          ap (λ (x : ArrayBytes). x.imm_at) l.text ∙ at_imm (imm_len row.form.immediate) (length head) four in
           omega (arith, at, taken, whole_len);
       imm_room = λ t.
           let four = width_of wide.imm (imm_len row.form.immediate) w.1 t in
-          let at : s.imm_at ≡ length head = ap (λ (x : ArrayBytes). x.imm_at) l.text ∙ at_imm (imm_len row.form.immediate) (length head) four in
+          let at : s.imm_at ≡ length head =
+          ap (λ (x : ArrayBytes). x.imm_at) l.text ∙ at_imm (imm_len row.form.immediate) (length head) four in
           omega (arith, at, len, whole_len);
     }

@@ -38,22 +38,31 @@ chunk_sweeps at (Alone c) h =
     let nops = length-replicate {A = ℕ} (padding c) 0x90 in
     let end : (at + length c.bytes) + padding c ≡ at + length (chunk_text (Alone c)) = omega (arith, len, nops) in
     subst (λ (to : ℕ). SweepsTo at (chunk_text (Alone c)) (chunk_swept at (Alone c)) to []) end
-    (to_append at (at + length c.bytes) ((at + length c.bytes) + padding c) c.bytes (replicate (padding c) 0x90) [] (record { at = at; len = length c.bytes; insn = insn_in c } ∷ []) (nops_at (at + length c.bytes) (padding c)) (one_sweeps at c.bytes (insn_in c) (coded_spelled c h)) (nops_sweep (at + length c.bytes) (padding c)))
+    (to_append at (at + length c.bytes) ((at + length c.bytes) + padding c) c.bytes (replicate (padding c) 0x90) []
+    (record { at = at; len = length c.bytes; insn = insn_in c } ∷ []) (nops_at (at + length c.bytes) (padding c))
+    (one_sweeps at c.bytes (insn_in c) (coded_spelled c h)) (nops_sweep (at + length c.bytes) (padding c)))
 chunk_sweeps at Pair h =
     let end : (at + 2) + 3 ≡ at + 5 = omega arith in
     let two : (at + 1) + 1 ≡ at + 2 = omega arith in
     subst (λ (to : ℕ). SweepsTo at (chunk_text Pair) (chunk_swept at Pair) to []) end
-    (to_append at (at + 1) ((at + 2) + 3) (0xFB ∷ []) (0xF4 ∷ 0x90 ∷ 0x90 ∷ 0x90 ∷ []) [] (record { at = at; len = 1; insn = sti } ∷ []) (record { at = at + 1; len = 1; insn = hlt } ∷ nops_at (at + 2) 3) (one_sweeps at (0xFB ∷ []) sti sti_spelled)
-    (to_append (at + 1) (at + 2) ((at + 2) + 3) (0xF4 ∷ []) (replicate 3 0x90) [] (record { at = at + 1; len = 1; insn = hlt } ∷ []) (nops_at (at + 2) 3) (subst (λ (to : ℕ). SweepsTo (at + 1) (0xF4 ∷ []) (record { at = at + 1; len = 1; insn = hlt } ∷ []) to []) two (one_sweeps (at + 1) (0xF4 ∷ []) hlt hlt_spelled)) (nops_sweep (at + 2) 3)))
+    (to_append at (at + 1) ((at + 2) + 3) (0xFB ∷ []) (0xF4 ∷ 0x90 ∷ 0x90 ∷ 0x90 ∷ []) [] (record { at = at; len = 1; insn = sti } ∷ [])
+    (record { at = at + 1; len = 1; insn = hlt } ∷ nops_at (at + 2) 3) (one_sweeps at (0xFB ∷ []) sti sti_spelled)
+    (to_append (at + 1) (at + 2) ((at + 2) + 3) (0xF4 ∷ []) (replicate 3 0x90) [] (record { at = at + 1; len = 1; insn = hlt } ∷ [])
+    (nops_at (at + 2) 3) (subst (λ (to : ℕ). SweepsTo (at + 1) (0xF4 ∷ []) (record { at = at + 1; len = 1; insn = hlt } ∷ []) to []) two
+    (one_sweeps (at + 1) (0xF4 ∷ []) hlt hlt_spelled)) (nops_sweep (at + 2) 3)))
 
-pub chunks_sweep : (at : ℕ) (cs : List Chunk) → AreChunks cs → SweepsTo at (chunks_text cs) (chunks_swept at cs) (at + length (chunks_text cs)) []
+pub chunks_sweep : (at : ℕ) (cs : List Chunk) → AreChunks cs → SweepsTo at (chunks_text cs) (chunks_swept at cs)
+    (at + length (chunks_text cs)) []
 unfolding chunks_swept
 chunks_sweep at [] h = (omega arith, refl)
 chunks_sweep at (c ∷ cs) h =
     let len = length-append (chunk_text c) (chunks_text cs) in
     let end : (at + length (chunk_text c)) + length (chunks_text cs) ≡ at + length (chunk_text c ++ chunks_text cs) = omega (arith, len) in
-    subst (λ (to : ℕ). SweepsTo at (chunk_text c ++ chunks_text cs) (chunk_swept at c ++ chunks_swept (at + length (chunk_text c)) cs) to []) end
-    (to_append at (at + length (chunk_text c)) ((at + length (chunk_text c)) + length (chunks_text cs)) (chunk_text c) (chunks_text cs) [] (chunk_swept at c) (chunks_swept (at + length (chunk_text c)) cs) (chunk_sweeps at c h.0) (chunks_sweep (at + length (chunk_text c)) cs h.1))
+    subst (λ (to : ℕ). SweepsTo at (chunk_text c ++ chunks_text cs)
+    (chunk_swept at c ++ chunks_swept (at + length (chunk_text c)) cs) to []) end
+    (to_append at (at + length (chunk_text c)) ((at + length (chunk_text c)) + length (chunks_text cs)) (chunk_text c) (chunks_text cs) []
+    (chunk_swept at c) (chunks_swept (at + length (chunk_text c)) cs) (chunk_sweeps at c h.0)
+    (chunks_sweep (at + length (chunk_text c)) cs h.1))
 
 pub whole_sweep : (cs : List Chunk) → AreChunks cs → Sweep (chunks_text cs) (chunks_swept 0 cs)
 whole_sweep cs h =
@@ -86,7 +95,8 @@ site_is at len insn k e =
       | inr b ↦ elim (cases_Bool (is_nop insn.op)) [
         | inl n ↦ absurd (some_none k (kind_of insn.op) e (nop_plain insn.op n))
         | inr n ↦
-            not_nop (is_direct_branch insn.op) (role.Branch (target_of at len insn)) (cond (is_nop insn.op) role.Nop (site_role (sensitive_kind insn))) b
+            not_nop (is_direct_branch insn.op) (role.Branch (target_of at len insn))
+            (cond (is_nop insn.op) role.Nop (site_role (sensitive_kind insn))) b
             ∙ not_nop (is_nop insn.op) role.Nop (site_role (sensitive_kind insn)) n
             ∙ ap site_role e
       ]
@@ -118,7 +128,8 @@ unfolding nops_at
 no_hlt at zero ps le = absurd (omega arith)
 no_hlt at (suc n) ps le = refl
 
-no_pair : (k : SiteKind) (at n : ℕ) (ps : List Piece) → (k ≡ site.Sti → 1 ≤ n) → (is_sti (role.Site k) && has_hlt (map piece_of (nops_at at n) ++ ps)) ≡ false
+no_pair : (k : SiteKind) (at n : ℕ) (ps : List Piece) → (k ≡ site.Sti → 1 ≤ n)
+    → (is_sti (role.Site k) && has_hlt (map piece_of (nops_at at n) ++ ps)) ≡ false
 no_pair site.Sti at n ps h = no_hlt at n ps (h refl)
 no_pair _ at n ps h = refl
 
@@ -137,14 +148,16 @@ begun_is : (p : Piece) (ps : List Piece) → begun_by p ps ≡ begun_as p ps p.r
 unfolding begun_by
 begun_is p ps = refl
 
-site_begins : (p : Piece) (k : SiteKind) (at : ℕ) (ps : List Piece) → p.role ≡ role.Site k → (k ≡ site.Sti → 1 ≤ 5 - p.len) → begun_by p (map piece_of (nops_at at (5 - p.len)) ++ ps) ≡ here.Makes (single p k)
+site_begins : (p : Piece) (k : SiteKind) (at : ℕ) (ps : List Piece) → p.role ≡ role.Site k → (k ≡ site.Sti → 1 ≤ 5 - p.len)
+    → begun_by p (map piece_of (nops_at at (5 - p.len)) ++ ps) ≡ here.Makes (single p k)
 site_begins p k at ps e h =
     let all = map piece_of (nops_at at (5 - p.len)) ++ ps in
     let n : max 5 p.len - p.len ≡ 5 - p.len = omega arith in
     begun_is p all
     ∙ ap (begun_as p all) e
     ∙ not_first (is_sti (role.Site k) && has_hlt all) (here.Makes (pair p)) (by_role p all (role.Site k)) (no_pair k at (5 - p.len) ps h)
-    ∙ first_is (has_nops (max 5 p.len - p.len) all) (here.Makes (single p k)) here.Lacks (ap (λ m. has_nops m all) n ∙ has_more at (5 - p.len) ps)
+    ∙ first_is (has_nops (max 5 p.len - p.len) all) (here.Makes (single p k)) here.Lacks
+    (ap (λ m. has_nops m all) n ∙ has_more at (5 - p.len) ps)
 
 -- what a chunk adds to what is found after it
 abbrev found_with : List Site → List Piece → Found
@@ -153,7 +166,8 @@ found_with sites ps = record { sites = sites ++ (found_behind 0 ps).sites; lacki
 quiet_found : (p : Piece) (ps : List Piece) → begun_by p ps ≡ here.Nothing → found_behind 0 (p ∷ ps) ≡ found_with [] ps
 quiet_found p ps e = look_at p ps ∙ ap (found_by p (λ n. found_behind n ps)) e
 
-site_found : (p : Piece) (s : Site) (at n : ℕ) (ps : List Piece) → begun_by p (map piece_of (nops_at at n) ++ ps) ≡ here.Makes s → s.total - p.len ≡ n → found_behind 0 (p ∷ (map piece_of (nops_at at n) ++ ps)) ≡ found_with (s ∷ []) ps
+site_found : (p : Piece) (s : Site) (at n : ℕ) (ps : List Piece) → begun_by p (map piece_of (nops_at at n) ++ ps) ≡ here.Makes s
+    → s.total - p.len ≡ n → found_behind 0 (p ∷ (map piece_of (nops_at at n) ++ ps)) ≡ found_with (s ∷ []) ps
 site_found p s at n ps e total =
     look_at p (map piece_of (nops_at at n) ++ ps)
     ∙ ap (found_by p (λ m. found_behind m (map piece_of (nops_at at n) ++ ps))) e
@@ -165,11 +179,16 @@ sti_len c h k e is =
     let l = ap length (sti_bytes c.row c.parts c.bytes h.listed h.spelled (e ∙ ap (λ (j : SiteKind). Some j) is)) in
     omega (arith, l)
 
-alone_found : (at : ℕ) (c : Coded) → IsCoded c → (o : Option SiteKind) → sensitive_kind (insn_in c) ≡ o → (ps : List Piece) → found_behind 0 (piece_of (record { at = at; len = length c.bytes; insn = insn_in c }) ∷ (map piece_of (nops_at (at + length c.bytes) (nops_behind o (length c.bytes))) ++ ps)) ≡ found_with (site_at at o (length c.bytes)) ps
+alone_found : (at : ℕ) (c : Coded) → IsCoded c → (o : Option SiteKind) → sensitive_kind (insn_in c) ≡ o → (ps : List Piece)
+    → found_behind 0 (piece_of
+    (record { at = at; len = length c.bytes; insn = insn_in c }) ∷ (map piece_of
+    (nops_at (at + length c.bytes) (nops_behind o (length c.bytes))) ++ ps)) ≡ found_with (site_at at o (length c.bytes)) ps
 unfolding nops_at
 alone_found at c h None e ps =
     let p = piece_of (record { at = at; len = length c.bytes; insn = insn_in c }) in
-    quiet_found p ps (quiet_begins p ps p.role refl (quiet_branch (is_direct_branch (insn_in c).op) (is_nop (insn_in c).op) (target_of at (length c.bytes) (insn_in c)) (sensitive_kind (insn_in c)) e))
+    quiet_found p ps (quiet_begins p ps p.role refl
+    (quiet_branch (is_direct_branch (insn_in c).op) (is_nop (insn_in c).op) (target_of at (length c.bytes) (insn_in c))
+    (sensitive_kind (insn_in c)) e))
 alone_found at c h (Some k) e ps =
     let p = piece_of (record { at = at; len = length c.bytes; insn = insn_in c }) in
     let total : max 5 (length c.bytes) - length c.bytes ≡ 5 - length c.bytes = omega arith in
@@ -180,11 +199,13 @@ pair_found : (at : ℕ) (ps : List Piece) → found_behind 0 (map piece_of (chun
 unfolding found_behind begun_by nops_at has_nops
 pair_found at ps = refl
 
-chunk_found : (at : ℕ) (c : Chunk) → IsChunk c → (ps : List Piece) → found_behind 0 (map piece_of (chunk_swept at c) ++ ps) ≡ found_with (chunk_site at c) ps
+chunk_found : (at : ℕ) (c : Chunk) → IsChunk c → (ps : List Piece) → found_behind 0 (map piece_of (chunk_swept at c) ++ ps) ≡ found_with
+    (chunk_site at c) ps
 chunk_found at (Alone c) h ps = alone_found at c h (sensitive_kind (insn_in c)) refl ps
 chunk_found at Pair h ps = pair_found at ps
 
-pub chunks_found : (at : ℕ) (cs : List Chunk) → AreChunks cs → found_behind 0 (map piece_of (chunks_swept at cs)) ≡ record { sites = chunk_sites at cs; lacking = None }
+pub chunks_found : (at : ℕ) (cs : List Chunk) → AreChunks cs → found_behind 0 (map piece_of (chunks_swept at cs))
+    ≡ record { sites = chunk_sites at cs; lacking = None }
 unfolding chunks_swept chunk_sites found_behind
 chunks_found at [] h = refl
 chunks_found at (c ∷ cs) h =

@@ -106,15 +106,19 @@ quiet_set : (c : ℕ) (g : Given) → IsQuiet (set c g)
 unfolding set
 quiet_set c g = quiet_condition (one op.Setcc (Some size.Byte) g) c (quiet_one op.Setcc (Some size.Byte) g refl)
 
-sound_control : (k : Control) (t : Option Size) (os : Operands) → ((o i : Op) → k ≡ control.Branch o i → is_direct_branch i ≡ false) → IsSound os (control_draft k t os)
+sound_control : (k : Control) (t : Option Size) (os : Operands) → ((o i : Op) → k ≡ control.Branch o i → is_direct_branch i ≡ false)
+    → IsSound os (control_draft k t os)
 unfolding control_draft
 sound_control (control.Branch o i) t (operands.One g) h = sound_direct o 0 t g
-sound_control (control.Branch o i) t (operands.Starred g) h = sound (operands.Starred g) (of_one (Some size.Long) i t g) (quiet_of_one (Some size.Long) i t g (h o i refl))
+sound_control (control.Branch o i) t (operands.Starred g) h =
+    sound (operands.Starred g) (of_one (Some size.Long) i t g) (quiet_of_one (Some size.Long) i t g (h o i refl))
 sound_control (control.Conditional c) t (operands.One g) h = sound_direct op.Jcc c t g
 sound_control (control.Set c) t (operands.One g) h = sound (operands.One g) (set c g) (quiet_set c g)
-sound_control control.Interrupt t (operands.One (given.Immediate n)) h = sound (operands.One (given.Immediate n)) (Some (with_number (alone op.Int) size.Byte n)) (quiet_number op.Int size.Long nothing nothing size.Byte n refl)
+sound_control control.Interrupt t (operands.One (given.Immediate n)) h = sound (operands.One (given.Immediate n))
+    (Some (with_number (alone op.Int) size.Byte n)) (quiet_number op.Int size.Long nothing nothing size.Byte n refl)
 sound_control control.Return t os h = sound os (agreed t (Some size.Long) None >>= λ s. return_of os) (quiet_returned t os)
-sound_control control.FarJump t (operands.Two (given.Immediate a) (given.Immediate b)) h = sound (operands.Two (given.Immediate a) (given.Immediate b)) (far a b) (quiet_far a b)
+sound_control control.FarJump t (operands.Two (given.Immediate a) (given.Immediate b)) h =
+    sound (operands.Two (given.Immediate a) (given.Immediate b)) (far a b) (quiet_far a b)
 sound_control _ t _ h = tt
 
 -- ---- families, and the names that have them
@@ -130,19 +134,25 @@ is_fine (family.Plain o) = not (is_direct_branch o)
 is_fine (family.System (system.Memory o)) = not (is_direct_branch o)
 is_fine _ = true
 
-fine_arithmetic : (k : Arithmetic) → is_fine (family.Arithmetic k) ≡ true → (o : Op) → (k ≡ arithmetic.Two o) ⊎ (k ≡ arithmetic.One o) → is_direct_branch o ≡ false
+fine_arithmetic : (k : Arithmetic) → is_fine (family.Arithmetic k) ≡ true → (o : Op) → (k ≡ arithmetic.Two o) ⊎ (k ≡ arithmetic.One o)
+    → is_direct_branch o ≡ false
 fine_arithmetic k e o (inl is) = not-true (is_direct_branch o) (ap (λ x. is_fine (family.Arithmetic x)) (sym is) ∙ e)
 fine_arithmetic k e o (inr is) = not-true (is_direct_branch o) (ap (λ x. is_fine (family.Arithmetic x)) (sym is) ∙ e)
 
 sound_family : (f : Family) (t : Option Size) (os : Operands) → is_fine f ≡ true → IsSound os (by_family f t os)
 sound_family (family.Arithmetic k) t os e = sound os (arithmetic_draft k t os) (quiet_arithmetic k t os (fine_arithmetic k e))
 sound_family (family.Shift o) t os e = sound os (shift_draft o t os) (quiet_shift o t os (not-true (is_direct_branch o) e))
-sound_family (family.Moves k) t os e = sound os (move_draft k t os) (quiet_moves k t os (λ o s is. not-true (is_direct_branch o) (ap (λ x. is_fine (family.Moves x)) (sym is) ∙ e)))
+sound_family (family.Moves k) t os e =
+    sound os (move_draft k t os)
+    (quiet_moves k t os (λ o s is. not-true (is_direct_branch o) (ap (λ x. is_fine (family.Moves x)) (sym is) ∙ e)))
 sound_family (family.Stack k) t os e = sound os (stack_draft k t os) (quiet_stack k t os)
-sound_family (family.Control k) t os e = sound_control k t os (λ o i is. not-true (is_direct_branch i) (ap (λ x. is_fine (family.Control x)) (sym is) ∙ e))
-sound_family (family.Strings o s) t os e = sound os (string_draft false o s os) (quiet_string false o s os (not-true (is_direct_branch o) e))
+sound_family (family.Control k) t os e =
+    sound_control k t os (λ o i is. not-true (is_direct_branch i) (ap (λ x. is_fine (family.Control x)) (sym is) ∙ e))
+sound_family (family.Strings o s) t os e =
+    sound os (string_draft false o s os) (quiet_string false o s os (not-true (is_direct_branch o) e))
 sound_family (family.Plain o) t os e = sound os (plain_draft o t os) (quiet_plain o t os (not-true (is_direct_branch o) e))
-sound_family (family.System k) t os e = sound os (system_draft k t os) (quiet_system k t os (λ o is. not-true (is_direct_branch o) (ap (λ x. is_fine (family.System x)) (sym is) ∙ e)))
+sound_family (family.System k) t os e = sound os (system_draft k t os)
+    (quiet_system k t os (λ o is. not-true (is_direct_branch o) (ap (λ x. is_fine (family.System x)) (sym is) ∙ e)))
 
 sound_repeated : (f : Family) (os : Operands) → is_fine f ≡ true → IsSound os (repeated f os)
 sound_repeated (family.Strings o s) os e = sound os (string_draft true o s os) (quiet_string true o s os (not-true (is_direct_branch o) e))
@@ -169,10 +179,11 @@ entry_fine e = is_fine e.1
 
 found_fine : (table : Table Family) (name : List ℕ) → list_all entry_fine table ≡ true → AllFine (found table name)
 found_fine [] name e = tt
-found_fine (x ∷ table) name e = by_name (bytes_eq name x.0) (and_parts (is_fine x.1) (list_all entry_fine table) e).0 (found_fine table name (and_parts (is_fine x.1) (list_all entry_fine table) e).1) where
-  by_name : (b : Bool) → is_fine x.1 ≡ true → AllFine (found table name) → AllFine (cond b (Some x.1) (found table name))
-  by_name true h k = h
-  by_name false h k = k
+found_fine (x ∷ table) name e = by_name (bytes_eq name x.0) (and_parts (is_fine x.1) (list_all entry_fine table) e).0
+    (found_fine table name (and_parts (is_fine x.1) (list_all entry_fine table) e).1) where
+      by_name : (b : Bool) → is_fine x.1 ≡ true → AllFine (found table name) → AllFine (cond b (Some x.1) (found table name))
+      by_name true h k = h
+      by_name false h k = k
 
 or_fine : (a b : Option Family) → AllFine a → AllFine b → AllFine (option_or a b)
 or_fine (Some f) b h k = h
@@ -214,7 +225,8 @@ MnemonicFine (Some m) = is_fine m.family ≡ true
 suffixed_fine : (front : List ℕ) (letter : ℕ) → MnemonicFine (suffixed front letter)
 unfolding suffixed
 suffixed_fine front letter = by_family_of (found sized_names front) (suffix letter) (sized_fine front) where
-  by_family_of : (f : Option Family) (s : Option Size) → AllFine f → MnemonicFine (f >>= λ x. s >>= λ y. Some (record { family = x; suffix = Some y }))
+  by_family_of : (f : Option Family) (s : Option Size) → AllFine f
+      → MnemonicFine (f >>= λ x. s >>= λ y. Some (record { family = x; suffix = Some y }))
   by_family_of None s h = tt
   by_family_of (Some f) None h = tt
   by_family_of (Some f) (Some s) h = h
@@ -245,5 +257,7 @@ sound_is os None d e h = absurd cc
 sound_is os (Some x) d e h = let same : x ≡ d = cc in subst (λ (y : Draft). (is_direct_branch y.insn.op ≡ false) ⊎ IsBranch os y) same h
 
 -- what a name means with its operands is no direct branch, or one to a symbol
-pub meant_sound : (rep : Bool) (name : List ℕ) (m : Mnemonic) (os : Operands) (d : Draft) → known_name name ≡ Some m → drafted rep m os ≡ Some d → (is_direct_branch d.insn.op ≡ false) ⊎ IsBranch os d
-meant_sound rep name m os d known is = sound_is os (drafted rep m os) d is (sound_drafted rep m os (fine_is (known_name name) m known (known_fine name)))
+pub meant_sound : (rep : Bool) (name : List ℕ) (m : Mnemonic) (os : Operands) (d : Draft) → known_name name ≡ Some m
+    → drafted rep m os ≡ Some d → (is_direct_branch d.insn.op ≡ false) ⊎ IsBranch os d
+meant_sound rep name m os d known is =
+    sound_is os (drafted rep m os) d is (sound_drafted rep m os (fine_is (known_name name) m known (known_fine name)))

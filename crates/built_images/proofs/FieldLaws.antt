@@ -36,7 +36,8 @@ use Rattle.built_images.proofs.ReadFields.{addressing_back, far_imm, imm_front, 
 abbrev joined : List ℕ → List ℕ → List ℕ → List ℕ
 joined front word back = front ++ (word ++ back)
 
-pub filled_is : (front word back other : List ℕ) (at : ℕ) → length front ≡ at → length word ≡ 4 → filled (joined front word back) at other ≡ joined front other back
+pub filled_is : (front word back other : List ℕ) (at : ℕ) → length front ≡ at → length word ≡ 4
+    → filled (joined front word back) at other ≡ joined front other back
 filled_is front word back other at e four =
     let whole : joined front word back ≡ (front ++ word) ++ back = sym (append_assoc front word back) in
     let len : length (front ++ word) ≡ at + 4 = length-append front word ∙ omega (arith, four, e) in
@@ -58,11 +59,13 @@ pub record Placed (row : Row) (bytes : List ℕ) (at held : ℕ) (parts_with : �
   pub is : long_at word ≡ Ok (held, [])
   pub again : (other : List ℕ) (m : ℕ) → long_at other ≡ Ok (m, []) → IsLaidOut row.form (parts_with m) (joined front other back)
 
-imm_placed : (row : Row) (p : Parts) (bytes : List ℕ) → imm_len row.form.immediate ≡ 4 → IsLaidOut row.form p bytes → Placed row bytes (imm_place row bytes) p.imm (λ m. with_imm m p)
+imm_placed : (row : Row) (p : Parts) (bytes : List ℕ) → imm_len row.form.immediate ≡ 4 → IsLaidOut row.form p bytes
+    → Placed row bytes (imm_place row bytes) p.imm (λ m. with_imm m p)
 imm_placed row p bytes four o =
     let i = imm_front row.form.immediate o.immediate p.imm p.sel four o.immediate_is in
     let front = o.lead ++ (p.code ∷ o.address) in
-    let split : bytes ≡ joined front i.word i.back = o.together ∙ ap (λ bs. o.lead ++ (p.code ∷ (o.address ++ bs))) i.parts ∙ sym (append_assoc o.lead (p.code ∷ o.address) (i.word ++ i.back)) in
+    let split : bytes ≡ joined front i.word i.back = o.together ∙ ap (λ bs. o.lead ++ (p.code ∷ (o.address ++ bs))) i.parts
+    ∙ sym (append_assoc o.lead (p.code ∷ o.address) (i.word ++ i.back)) in
     let size = i.size in
     let len4 = i.four in
     record {
@@ -85,7 +88,8 @@ imm_placed row p bytes four o =
         immediate_is = i.again other m h;
       };
     } where
-      place_is : (whole front word back : List ℕ) (size : ℕ) → whole ≡ joined front word back → length word ≡ 4 → 4 + length back ≡ size → length front ≡ length whole - size
+      place_is : (whole front word back : List ℕ) (size : ℕ) → whole ≡ joined front word back → length word ≡ 4 → 4 + length back ≡ size
+          → length front ≡ length whole - size
       place_is whole front word back size e w s =
           let l = ap length e ∙ length-append front (word ++ back) in
           let k = length-append word back in
@@ -127,9 +131,11 @@ imm_size_is immediate.Far bytes n sel e =
     let size = f.size in
     omega (arith, l, four, size)
 
-disp_placed : (row : Row) (p : Parts) (bytes : List ℕ) → p.disp_len ≡ 4 → IsLaidOut row.form p bytes → Placed row bytes (disp_place row bytes) (offset_of p.rm) (λ m. with_disp m p)
+disp_placed : (row : Row) (p : Parts) (bytes : List ℕ) → p.disp_len ≡ 4 → IsLaidOut row.form p bytes
+    → Placed row bytes (disp_place row bytes) (offset_of p.rm) (λ m. with_disp m p)
 disp_placed row p bytes four o =
-    let e : addressing_at row.form.addressing o.address ≡ Ok (located p.reg p.rm, []) = o.address_is ∙ ap (λ (n : ℕ). read (record { reg = p.reg; rm = p.rm; disp_len = n }) []) four in
+    let e : addressing_at row.form.addressing o.address ≡ Ok (located p.reg p.rm, []) =
+    o.address_is ∙ ap (λ (n : ℕ). read (record { reg = p.reg; rm = p.rm; disp_len = n }) []) four in
     let a = addressing_back row.form.addressing o.address p.reg p.rm e in
     let size = imm_size_is row.form.immediate o.immediate p.imm p.sel o.immediate_is in
     let front = o.lead ++ (p.code ∷ a.front) in
@@ -160,7 +166,8 @@ disp_placed row p bytes four o =
         immediate_is = o.immediate_is;
       };
     } where
-      place_is : (whole front word back : List ℕ) (size : ℕ) → whole ≡ joined front word back → length word ≡ 4 → length back ≡ size → length front ≡ length whole - size - 4
+      place_is : (whole front word back : List ℕ) (size : ℕ) → whole ≡ joined front word back → length word ≡ 4 → length back ≡ size
+          → length front ≡ length whole - size - 4
       place_is whole front word back size e w s =
           let l = ap length e ∙ length-append front (word ++ back) in
           let k = length-append word back in
@@ -252,23 +259,27 @@ imm_means row p insn n e =
     ∙ ap (insn_with row (operands_of row.operands (with_imm n p)) n) (sym (sel_imm n row.form.plus p))
 
 filled_bytes : (bytes word : List ℕ) (at : ℕ) → AreBytes bytes → AreBytes word → AreBytes (filled bytes at word)
-filled_bytes bytes word at fit few = AreBytes-append (take at bytes) (word ++ drop (at + 4) bytes) (AreBytes-take at bytes fit) (AreBytes-append word (drop (at + 4) bytes) few (AreBytes-drop (at + 4) bytes fit))
+filled_bytes bytes word at fit few = AreBytes-append (take at bytes) (word ++ drop (at + 4) bytes) (AreBytes-take at bytes fit)
+    (AreBytes-append word (drop (at + 4) bytes) few (AreBytes-drop (at + 4) bytes fit))
 
 laid : (row : Row) (p : Parts) (bytes : List ℕ) (insn : Insn) → Contains rows row → SpellsBy row p bytes insn → IsLaidOut row.form p bytes
 laid row p bytes insn c s = (in_pieces row c p bytes).0 s.read
 
 module _ (row : Row) (p : Parts) (bytes : List ℕ) (insn : Insn) (listed : Contains rows row) (spelled : SpellsBy row p bytes insn) where
   -- the spelling with other four bytes in a field
-  spelled_with : (at held : ℕ) (parts_with : ℕ → Parts) (insn_with : Insn) → Placed row bytes at held parts_with → (word : List ℕ) (n : ℕ) → IsWord word n → insn_with ≡ insn_of row (parts_with n) → SpellsBy row (parts_with n) (filled bytes at word) insn_with
+  spelled_with : (at held : ℕ) (parts_with : ℕ → Parts) (insn_with : Insn) → Placed row bytes at held parts_with → (word : List ℕ) (n : ℕ)
+      → IsWord word n → insn_with ≡ insn_of row (parts_with n) → SpellsBy row (parts_with n) (filled bytes at word) insn_with
   spelled_with at held parts_with other f word n w means =
-      let e : filled bytes at word ≡ joined f.front word f.back = ap (λ (bs : List ℕ). filled bs at word) f.parts ∙ filled_is f.front f.word f.back word at f.at_is f.four in
+      let e : filled bytes at word ≡ joined f.front word f.back =
+      ap (λ (bs : List ℕ). filled bs at word) f.parts ∙ filled_is f.front f.word f.back word at f.at_is f.four in
       record {
         fit = filled_bytes bytes word at spelled.fit w.fit;
         read = ap (parts_at row.form) e ∙ (in_pieces row listed (parts_with n) (joined f.front word f.back)).1 (f.again word n w.is);
         means = means;
       }
 
-  held_in : (at held : ℕ) (parts_with : ℕ → Parts) → Placed row bytes at held parts_with → (at + 4 ≤ length bytes) × IsWord (word_in bytes at) held
+  held_in : (at held : ℕ) (parts_with : ℕ → Parts) → Placed row bytes at held parts_with → (at + 4 ≤ length bytes)
+      × IsWord (word_in bytes at) held
   held_in at held parts_with f =
       let w : word_in bytes at ≡ f.word = ap (λ (bs : List ℕ). word_in bs at) f.parts ∙ word_is f.front f.word f.back at f.at_is f.four in
       let l = ap length f.parts ∙ length-append f.front (f.word ++ f.back) in
@@ -282,20 +293,29 @@ module _ (row : Row) (p : Parts) (bytes : List ℕ) (insn : Insn) (listed : Cont
         },
       )
 
-  number_with : (at held : ℕ) (parts_with : ℕ → Parts) (insn_with : Insn) → Placed row bytes at held parts_with → (n : ℕ) → n < 2 ^ 32 → insn_with ≡ insn_of row (parts_with n) → SpellsBy row (parts_with n) (with_word32 bytes at n) insn_with
-  number_with at held parts_with other f n lt means = subst (λ bs. SpellsBy row (parts_with n) bs other) (sym (filled_word bytes at n)) (spelled_with at held parts_with other f (to_le_bytes w32 n) n (word_of n lt) means)
+  number_with : (at held : ℕ) (parts_with : ℕ → Parts) (insn_with : Insn) → Placed row bytes at held parts_with → (n : ℕ) → n < 2 ^ 32
+      → insn_with ≡ insn_of row (parts_with n) → SpellsBy row (parts_with n) (with_word32 bytes at n) insn_with
+  number_with at held parts_with other f n lt means = subst (λ bs. SpellsBy row (parts_with n) bs other) (sym (filled_word bytes at n))
+      (spelled_with at held parts_with other f (to_le_bytes w32 n) n (word_of n lt) means)
 
-  number_in : (at held : ℕ) (parts_with : ℕ → Parts) → Placed row bytes at held parts_with → (at + 4 ≤ length bytes) × (word32 bytes at ≡ held)
+  number_in : (at held : ℕ) (parts_with : ℕ → Parts) → Placed row bytes at held parts_with → (at + 4 ≤ length bytes)
+      × (word32 bytes at ≡ held)
   number_in at held parts_with f = let h = held_in at held parts_with f in (h.0, word_there bytes at held h.1)
 
-  pub disp_law : p.disp_len ≡ 4 → (n : ℕ) → n < 2 ^ 32 → SpellsBy row (with_disp n p) (with_word32 bytes (disp_place row bytes) n) (insn_disp n insn)
-  disp_law four n lt = number_with (disp_place row bytes) (offset_of p.rm) (λ m. with_disp m p) (insn_disp n insn) (disp_placed row p bytes four (laid row p bytes insn listed spelled)) n lt (disp_means row p insn n spelled.means)
+  pub disp_law : p.disp_len ≡ 4 → (n : ℕ) → n < 2 ^ 32
+      → SpellsBy row (with_disp n p) (with_word32 bytes (disp_place row bytes) n) (insn_disp n insn)
+  disp_law four n lt = number_with (disp_place row bytes) (offset_of p.rm) (λ m. with_disp m p) (insn_disp n insn)
+      (disp_placed row p bytes four (laid row p bytes insn listed spelled)) n lt (disp_means row p insn n spelled.means)
 
-  pub imm_law : imm_len row.form.immediate ≡ 4 → (n : ℕ) → n < 2 ^ 32 → SpellsBy row (with_imm n p) (with_word32 bytes (imm_place row bytes) n) (insn_imm n insn)
-  imm_law four n lt = number_with (imm_place row bytes) p.imm (λ m. with_imm m p) (insn_imm n insn) (imm_placed row p bytes four (laid row p bytes insn listed spelled)) n lt (imm_means row p insn n spelled.means)
+  pub imm_law : imm_len row.form.immediate ≡ 4 → (n : ℕ) → n < 2 ^ 32
+      → SpellsBy row (with_imm n p) (with_word32 bytes (imm_place row bytes) n) (insn_imm n insn)
+  imm_law four n lt = number_with (imm_place row bytes) p.imm (λ m. with_imm m p) (insn_imm n insn)
+      (imm_placed row p bytes four (laid row p bytes insn listed spelled)) n lt (imm_means row p insn n spelled.means)
 
   pub disp_held : p.disp_len ≡ 4 → (disp_place row bytes + 4 ≤ length bytes) × (word32 bytes (disp_place row bytes) ≡ offset_of p.rm)
-  disp_held four = number_in (disp_place row bytes) (offset_of p.rm) (λ m. with_disp m p) (disp_placed row p bytes four (laid row p bytes insn listed spelled))
+  disp_held four = number_in (disp_place row bytes) (offset_of p.rm) (λ m. with_disp m p)
+      (disp_placed row p bytes four (laid row p bytes insn listed spelled))
 
   pub imm_held : imm_len row.form.immediate ≡ 4 → (imm_place row bytes + 4 ≤ length bytes) × (word32 bytes (imm_place row bytes) ≡ p.imm)
-  imm_held four = number_in (imm_place row bytes) p.imm (λ m. with_imm m p) (imm_placed row p bytes four (laid row p bytes insn listed spelled))
+  imm_held four =
+      number_in (imm_place row bytes) p.imm (λ m. with_imm m p) (imm_placed row p bytes four (laid row p bytes insn listed spelled))

@@ -40,7 +40,8 @@ pub field_like : (c d : Coded) (at : ℕ) → IsLike c d → IsField c at → Is
 field_like c d at h f =
     let row = h.row in
     let size : imm_size d.row.form.immediate ≡ imm_size c.row.form.immediate = ap (λ (r : Row). imm_size r.form.immediate) row in
-    let place : imm_place d.row d.bytes ≡ imm_place c.row c.bytes = ap (λ n. n - imm_size d.row.form.immediate) h.len ∙ ap (λ n. length c.bytes - n) size in
+    let place : imm_place d.row d.bytes ≡ imm_place c.row c.bytes =
+    ap (λ n. n - imm_size d.row.form.immediate) h.len ∙ ap (λ n. length c.bytes - n) size in
     elim f [
       | inl x ↦ inl (h.disp ∙ x.0, x.1 ∙ sym (ap (λ n. n - 4) place))
       | inr x ↦ inr (ap (λ (r : Row). imm_len r.form.immediate) row ∙ x.0, x.1 ∙ sym place)
@@ -49,8 +50,10 @@ field_like c d at h f =
 pub field_room : (c : Coded) (at : ℕ) → IsCoded c → IsField c at → at + 4 ≤ length c.bytes
 field_room c at h f =
     elim f [
-      | inl x ↦ let r = disp_held c.row c.parts c.bytes (insn_in c) h.listed h.spelled x.0 in let le = r.0 in let e = x.1 in omega (arith, le, e)
-      | inr x ↦ let r = imm_held c.row c.parts c.bytes (insn_in c) h.listed h.spelled x.0 in let le = r.0 in let e = x.1 in omega (arith, le, e)
+      | inl x ↦ let r =
+          disp_held c.row c.parts c.bytes (insn_in c) h.listed h.spelled x.0 in let le = r.0 in let e = x.1 in omega (arith, le, e)
+      | inr x ↦ let r =
+          imm_held c.row c.parts c.bytes (insn_in c) h.listed h.spelled x.0 in let le = r.0 in let e = x.1 in omega (arith, le, e)
     ]
 
 pub record OneFilled (c : Coded) (at n : ℕ) : Type 0 where
@@ -59,7 +62,8 @@ pub record OneFilled (c : Coded) (at n : ℕ) : Type 0 where
   pub like : IsLike c coded
   pub bytes : coded.bytes ≡ with_word32 c.bytes at n
 
-spelled_as : (row : Row) (p : Parts) (bytes : List ℕ) (insn : Rattle.ia32_types.specs.declared.insn.Insn.Insn) → SpellsBy row p bytes insn → SpellsBy row p bytes (insn_of row p)
+spelled_as : (row : Row) (p : Parts) (bytes : List ℕ) (insn : Rattle.ia32_types.specs.declared.insn.Insn.Insn) → SpellsBy row p bytes insn
+    → SpellsBy row p bytes (insn_of row p)
 spelled_as row p bytes insn s = record { fit = s.fit; read = s.read; means = refl }
 
 pub one_filled : (c : Coded) (at n : ℕ) → IsCoded c → IsField c at → n < 2 ^ 32 → OneFilled c at n
@@ -68,19 +72,28 @@ one_filled c at n h f lt =
     elim f [
       | inl x ↦
           let e : disp_place c.row c.bytes ≡ at = sym x.1 in
-          let s = spelled_as c.row (with_disp n c.parts) (with_word32 c.bytes (disp_place c.row c.bytes) n) _ (disp_law c.row c.parts c.bytes (insn_in c) h.listed h.spelled x.0 n lt) in
+          let s = spelled_as c.row (with_disp n c.parts) (with_word32 c.bytes (disp_place c.row c.bytes) n) _
+          (disp_law c.row c.parts c.bytes (insn_in c) h.listed h.spelled x.0 n lt) in
           record {
             coded = record { row = c.row; parts = with_disp n c.parts; bytes = with_word32 c.bytes at n; relocs = c.relocs };
-            is = record { listed = h.listed; spelled = subst (λ k. SpellsBy c.row (with_disp n c.parts) (with_word32 c.bytes k n) (insn_of c.row (with_disp n c.parts))) e s };
+            is = record {
+              listed = h.listed;
+              spelled =
+                  subst (λ k. SpellsBy c.row (with_disp n c.parts) (with_word32 c.bytes k n) (insn_of c.row (with_disp n c.parts))) e s;
+            };
             like = record { row = refl; relocs = refl; disp = refl; len = room };
             bytes = refl;
           }
       | inr x ↦
           let e : imm_place c.row c.bytes ≡ at = sym x.1 in
-          let s = spelled_as c.row (with_imm n c.parts) (with_word32 c.bytes (imm_place c.row c.bytes) n) _ (imm_law c.row c.parts c.bytes (insn_in c) h.listed h.spelled x.0 n lt) in
+          let s = spelled_as c.row (with_imm n c.parts) (with_word32 c.bytes (imm_place c.row c.bytes) n) _
+          (imm_law c.row c.parts c.bytes (insn_in c) h.listed h.spelled x.0 n lt) in
           record {
             coded = record { row = c.row; parts = with_imm n c.parts; bytes = with_word32 c.bytes at n; relocs = c.relocs };
-            is = record { listed = h.listed; spelled = subst (λ k. SpellsBy c.row (with_imm n c.parts) (with_word32 c.bytes k n) (insn_of c.row (with_imm n c.parts))) e s };
+            is = record {
+              listed = h.listed;
+              spelled = subst (λ k. SpellsBy c.row (with_imm n c.parts) (with_word32 c.bytes k n) (insn_of c.row (with_imm n c.parts))) e s;
+            };
             like = record { row = refl; relocs = refl; disp = refl; len = room };
             bytes = refl;
           }
@@ -99,7 +112,8 @@ pub record RestFilled (made : Reloc → ℕ → ℕ) (at : ℕ) (c : Coded) (rs 
   pub like : IsLike c coded
   pub bytes : coded.bytes ≡ fold (fill_at made at) c.bytes rs
 
-pub rest_filled : (made : Reloc → ℕ → ℕ) (at : ℕ) (c : Coded) (rs : List Reloc) → MakesWords made → IsCoded c → AreFields c rs → RestFilled made at c rs
+pub rest_filled : (made : Reloc → ℕ → ℕ) (at : ℕ) (c : Coded) (rs : List Reloc) → MakesWords made → IsCoded c → AreFields c rs
+    → RestFilled made at c rs
 rest_filled made at c [] words h f = record { coded = c; is = h; like = like_itself c; bytes = refl }
 rest_filled made at c (r ∷ rs) words h f =
     let n = made (reloc_later at r) (word32 c.bytes r.at) in
@@ -118,10 +132,12 @@ rooms : (c : Coded) (rs : List Reloc) → IsCoded c → AreFields c rs → AllBy
 rooms c [] h f = tt
 rooms c (r ∷ rs) h f = (field_room c r.at h f.0, rooms c rs h f.1)
 
-rooms_in : (n m : ℕ) (rs : List Reloc) → m ≡ n → AllByRecursion (λ (r : Reloc). r.at + 4 ≤ n) rs → AllByRecursion (λ (r : Reloc). r.at + 4 ≤ m) rs
+rooms_in : (n m : ℕ) (rs : List Reloc) → m ≡ n → AllByRecursion (λ (r : Reloc). r.at + 4 ≤ n) rs
+    → AllByRecursion (λ (r : Reloc). r.at + 4 ≤ m) rs
 rooms_in n m rs e h = subst (λ (k : ℕ). AllByRecursion (λ (r : Reloc). r.at + 4 ≤ k) rs) (sym e) h
 
-pub among : (made : Reloc → ℕ → ℕ) (pre b tail : List ℕ) (rs : List Reloc) → AllByRecursion (λ (r : Reloc). r.at + 4 ≤ length b) rs → fold (fill made) (pre ++ (b ++ tail)) (map (reloc_later (length pre)) rs) ≡ pre ++ (fold (fill_at made (length pre)) b rs ++ tail)
+pub among : (made : Reloc → ℕ → ℕ) (pre b tail : List ℕ) (rs : List Reloc) → AllByRecursion (λ (r : Reloc). r.at + 4 ≤ length b) rs
+    → fold (fill made) (pre ++ (b ++ tail)) (map (reloc_later (length pre)) rs) ≡ pre ++ (fold (fill_at made (length pre)) b rs ++ tail)
 among made pre b tail [] h = refl
 among made pre b tail (r ∷ rs) h =
     let at = length pre + r.at in
@@ -151,17 +167,22 @@ pub record ChunksFilled (made : Reloc → ℕ → ℕ) (pre : List ℕ) (cs : Li
   pub filled : AreFilled made (length pre) cs chunks
   pub text : fold (fill made) (pre ++ chunks_text cs) (chunks_relocs (length pre) cs) ≡ pre ++ chunks_text chunks
 
-alone_filled : (made : Reloc → ℕ → ℕ) (pre : List ℕ) (c d : Coded) (cs : List Chunk) → IsCoded c → AreFields c c.relocs → d.bytes ≡ fold (fill_at made (length pre)) c.bytes c.relocs → padding d ≡ padding c → fold (fill made) (pre ++ (chunk_text (Alone c) ++ chunks_text cs)) (map (reloc_later (length pre)) c.relocs) ≡ (pre ++ chunk_text (Alone d)) ++ chunks_text cs
+alone_filled : (made : Reloc → ℕ → ℕ) (pre : List ℕ) (c d : Coded) (cs : List Chunk) → IsCoded c → AreFields c c.relocs
+    → d.bytes ≡ fold (fill_at made (length pre)) c.bytes c.relocs → padding d ≡ padding c
+    → fold (fill made) (pre ++ (chunk_text (Alone c) ++ chunks_text cs)) (map (reloc_later (length pre)) c.relocs)
+    ≡ (pre ++ chunk_text (Alone d)) ++ chunks_text cs
 alone_filled made pre c d cs h f e pad =
     let tail = nops (padding c) ++ chunks_text cs in
-    ap (λ bs. fold (fill made) (pre ++ bs) (map (reloc_later (length pre)) c.relocs)) (append_assoc c.bytes (nops (padding c)) (chunks_text cs))
+    ap (λ bs. fold (fill made) (pre ++ bs) (map (reloc_later (length pre)) c.relocs))
+    (append_assoc c.bytes (nops (padding c)) (chunks_text cs))
     ∙ among made pre c.bytes tail c.relocs (rooms c c.relocs h f)
     ∙ ap (λ bs. pre ++ (bs ++ tail)) (sym e)
     ∙ ap (λ n. pre ++ (d.bytes ++ (nops n ++ chunks_text cs))) (sym pad)
     ∙ ap (λ bs. pre ++ bs) (sym (append_assoc d.bytes (nops (padding d)) (chunks_text cs)))
     ∙ sym (append_assoc pre (chunk_text (Alone d)) (chunks_text cs))
 
-pub chunks_filled : (made : Reloc → ℕ → ℕ) (pre : List ℕ) (cs : List Chunk) → MakesWords made → AreChunks cs → HaveFields cs → ChunksFilled made pre cs
+pub chunks_filled : (made : Reloc → ℕ → ℕ) (pre : List ℕ) (cs : List Chunk) → MakesWords made → AreChunks cs → HaveFields cs
+    → ChunksFilled made pre cs
 unfolding chunks_relocs
 chunks_filled made pre [] words h f = record { chunks = []; are = tt; filled = tt; text = refl }
 chunks_filled made pre (Alone c ∷ cs) words h f =
@@ -171,15 +192,21 @@ chunks_filled made pre (Alone c ∷ cs) words h f =
     let l = alone_length c in
     let m = alone_length d in
     let same_len = one.like.len in
-    let at : length (pre ++ chunk_text (Alone d)) ≡ length pre + length (chunk_text (Alone c)) = omega (arith, length-append pre (chunk_text (Alone d)), l, m, same_len, pad) in
+    let at : length (pre ++ chunk_text (Alone d)) ≡ length pre + length (chunk_text (Alone c)) =
+    omega (arith, length-append pre (chunk_text (Alone d)), l, m, same_len, pad) in
     let more = chunks_filled made (pre ++ chunk_text (Alone d)) cs words h.1 f.1 in
     record {
       chunks = Alone d ∷ more.chunks;
       are = (one.is, more.are);
-      filled = (record { row = one.like.row; relocs = one.like.relocs; disp = one.like.disp; len = one.like.len; bytes = one.bytes }, subst (λ (n : ℕ). AreFilled made n cs more.chunks) at more.filled);
+      filled = (
+        record { row = one.like.row; relocs = one.like.relocs; disp = one.like.disp; len = one.like.len; bytes = one.bytes },
+        subst (λ (n : ℕ). AreFilled made n cs more.chunks) at more.filled,
+      );
       text =
-          fold-append (fill made) (pre ++ (chunk_text (Alone c) ++ chunks_text cs)) (map (reloc_later (length pre)) c.relocs) (chunks_relocs (length pre + length (chunk_text (Alone c))) cs)
-          ∙ ap (λ bs. fold (fill made) bs (chunks_relocs (length pre + length (chunk_text (Alone c))) cs)) (alone_filled made pre c d cs h.0 f.0 one.bytes pad)
+          fold-append (fill made) (pre ++ (chunk_text (Alone c) ++ chunks_text cs)) (map (reloc_later (length pre)) c.relocs)
+          (chunks_relocs (length pre + length (chunk_text (Alone c))) cs)
+          ∙ ap (λ bs. fold (fill made) bs (chunks_relocs (length pre + length (chunk_text (Alone c))) cs))
+          (alone_filled made pre c d cs h.0 f.0 one.bytes pad)
           ∙ ap (λ (n : ℕ). fold (fill made) ((pre ++ chunk_text (Alone d)) ++ chunks_text cs) (chunks_relocs n cs)) (sym at)
           ∙ more.text
           ∙ append_assoc pre (chunk_text (Alone d)) (chunks_text more.chunks);
@@ -192,18 +219,21 @@ chunks_filled made pre (Pair ∷ cs) words h f =
       are = (tt, more.are);
       filled = (tt, subst (λ (n : ℕ). AreFilled made n cs more.chunks) at more.filled);
       text =
-          ap (λ bs. fold (fill made) bs (chunks_relocs (length pre + length (chunk_text Pair)) cs)) (sym (append_assoc pre (chunk_text Pair) (chunks_text cs)))
+          ap (λ bs. fold (fill made) bs (chunks_relocs (length pre + length (chunk_text Pair)) cs))
+          (sym (append_assoc pre (chunk_text Pair) (chunks_text cs)))
           ∙ ap (λ (n : ℕ). fold (fill made) ((pre ++ chunk_text Pair) ++ chunks_text cs) (chunks_relocs n cs)) (sym at)
           ∙ more.text
           ∙ append_assoc pre (chunk_text Pair) (chunks_text more.chunks);
     }
 
-pub text_filled : (made : Reloc → ℕ → ℕ) (cs : List Chunk) → MakesWords made → AreChunks cs → HaveFields cs → (ds : List Chunk) × AreChunks ds × AreFilled made 0 cs ds × (fold (fill made) (chunks_text cs) (chunks_relocs 0 cs) ≡ chunks_text ds)
+pub text_filled : (made : Reloc → ℕ → ℕ) (cs : List Chunk) → MakesWords made → AreChunks cs → HaveFields cs → (ds : List Chunk)
+    × AreChunks ds × AreFilled made 0 cs ds × (fold (fill made) (chunks_text cs) (chunks_relocs 0 cs) ≡ chunks_text ds)
 text_filled made cs words h f = let r = chunks_filled made [] cs words h f in (r.chunks, r.are, r.filled, r.text)
 
 -- ---- what stays
 
-pub filled_length : (made : Reloc → ℕ → ℕ) (at : ℕ) (c d : Chunk) → IsFilledChunk made at c d → length (chunk_text d) ≡ length (chunk_text c)
+pub filled_length : (made : Reloc → ℕ → ℕ) (at : ℕ) (c d : Chunk) → IsFilledChunk made at c d
+    → length (chunk_text d) ≡ length (chunk_text c)
 filled_length made at (Alone c) (Alone d) h =
     let pad = padding_like c d h.row h.len in
     let l = alone_length c in
@@ -215,21 +245,25 @@ filled_length made at (Alone c) Pair h = absurd h
 filled_length made at Pair (Alone d) h = absurd h
 
 filled_site : (made : Reloc → ℕ → ℕ) (at from : ℕ) (c d : Chunk) → IsFilledChunk made at c d → chunk_site from d ≡ chunk_site from c
-filled_site made at from (Alone c) (Alone d) h = ap (site_at from (sensitive_kind (insn_in d))) h.len ∙ ap (λ o. site_at from o (length c.bytes)) (kind_like c d h.row)
+filled_site made at from (Alone c) (Alone d) h =
+    ap (site_at from (sensitive_kind (insn_in d))) h.len ∙ ap (λ o. site_at from o (length c.bytes)) (kind_like c d h.row)
 filled_site made at from Pair Pair h = refl
 filled_site made at from (Alone c) Pair h = absurd h
 filled_site made at from Pair (Alone d) h = absurd h
 
-pub same_length : (made : Reloc → ℕ → ℕ) (at : ℕ) (cs ds : List Chunk) → AreFilled made at cs ds → length (chunks_text ds) ≡ length (chunks_text cs)
+pub same_length : (made : Reloc → ℕ → ℕ) (at : ℕ) (cs ds : List Chunk) → AreFilled made at cs ds
+    → length (chunks_text ds) ≡ length (chunks_text cs)
 same_length made at [] [] h = refl
 same_length made at (c ∷ cs) (d ∷ ds) h =
     let one = filled_length made at c d h.0 in
     let more = same_length made (at + length (chunk_text c)) cs ds h.1 in
-    length-append (chunk_text d) (chunks_text ds) ∙ ap (λ n. n + length (chunks_text ds)) one ∙ ap (λ n. length (chunk_text c) + n) more ∙ sym (length-append (chunk_text c) (chunks_text cs))
+    length-append (chunk_text d) (chunks_text ds) ∙ ap (λ n. n + length (chunks_text ds)) one ∙ ap (λ n. length (chunk_text c) + n) more
+    ∙ sym (length-append (chunk_text c) (chunks_text cs))
 same_length made at [] (d ∷ ds) h = absurd h
 same_length made at (c ∷ cs) [] h = absurd h
 
-pub same_sites : (made : Reloc → ℕ → ℕ) (at from : ℕ) (cs ds : List Chunk) → AreFilled made at cs ds → chunk_sites from ds ≡ chunk_sites from cs
+pub same_sites : (made : Reloc → ℕ → ℕ) (at from : ℕ) (cs ds : List Chunk) → AreFilled made at cs ds
+    → chunk_sites from ds ≡ chunk_sites from cs
 unfolding chunk_sites
 same_sites made at from [] [] h = refl
 same_sites made at from (c ∷ cs) (d ∷ ds) h =

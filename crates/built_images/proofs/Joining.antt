@@ -92,7 +92,8 @@ pub nop_chunks_sites : (at n : ℕ) → chunk_sites at (nop_chunks n) ≡ []
 unfolding nop_chunks chunk_sites
 nop_chunks_sites at zero = refl
 nop_chunks_sites at (suc n) =
-    ap (λ xs. xs ++ chunk_sites (at + length (chunk_text (Alone nop_coded))) (nop_chunks n)) (nop_site at) ∙ nop_chunks_sites (at + length (chunk_text (Alone nop_coded))) n
+    ap (λ xs. xs ++ chunk_sites (at + length (chunk_text (Alone nop_coded))) (nop_chunks n)) (nop_site at)
+    ∙ nop_chunks_sites (at + length (chunk_text (Alone nop_coded))) n
 
 pub jump_sites : (at : ℕ) → chunk_sites at (Alone jump_coded ∷ []) ≡ []
 unfolding chunk_sites
@@ -106,15 +107,20 @@ OnBranch Good s = is_direct_branch s.insn.op ≡ true → Good (target_of s.at s
 pub nops_no_branch : (Good : ℕ → Type 0) (at n : ℕ) → All (OnBranch Good) (nops_at at n)
 unfolding nops_at
 nops_no_branch Good at zero = All-nil (OnBranch Good)
-nops_no_branch Good at (suc n) = All-cons (OnBranch Good) (record { at = at; len = 1; insn = nop }) (nops_at (at + 1) n) (λ e. absurd cc) (nops_no_branch Good (at + 1) n)
+nops_no_branch Good at (suc n) = All-cons (OnBranch Good) (record { at = at; len = 1; insn = nop }) (nops_at (at + 1) n) (λ e. absurd cc)
+    (nops_no_branch Good (at + 1) n)
 
-pub alone_branch : (Good : ℕ → Type 0) (at : ℕ) (c : Coded) → OnBranch Good (record { at = at; len = length c.bytes; insn = insn_in c }) → All (OnBranch Good) (chunk_swept at (Alone c))
-alone_branch Good at c h = All-cons (OnBranch Good) (record { at = at; len = length c.bytes; insn = insn_in c }) (nops_at (at + length c.bytes) (padding c)) h (nops_no_branch Good (at + length c.bytes) (padding c))
+pub alone_branch : (Good : ℕ → Type 0) (at : ℕ) (c : Coded) → OnBranch Good (record { at = at; len = length c.bytes; insn = insn_in c })
+    → All (OnBranch Good) (chunk_swept at (Alone c))
+alone_branch Good at c h = All-cons (OnBranch Good) (record { at = at; len = length c.bytes; insn = insn_in c })
+    (nops_at (at + length c.bytes) (padding c)) h (nops_no_branch Good (at + length c.bytes) (padding c))
 
 pub pair_branch : (Good : ℕ → Type 0) (at : ℕ) → All (OnBranch Good) (chunk_swept at Pair)
 pair_branch Good at =
-    All-cons (OnBranch Good) (record { at = at; len = 1; insn = sti }) (record { at = at + 1; len = 1; insn = hlt } ∷ nops_at (at + 2) 3) (λ e. absurd cc)
-    (All-cons (OnBranch Good) (record { at = at + 1; len = 1; insn = hlt }) (nops_at (at + 2) 3) (λ e. absurd cc) (nops_no_branch Good (at + 2) 3))
+    All-cons (OnBranch Good) (record { at = at; len = 1; insn = sti })
+    (record { at = at + 1; len = 1; insn = hlt } ∷ nops_at (at + 2) 3) (λ e. absurd cc)
+    (All-cons (OnBranch Good) (record { at = at + 1; len = 1; insn = hlt }) (nops_at (at + 2) 3) (λ e. absurd cc)
+    (nops_no_branch Good (at + 2) 3))
 
 nop_false : (insn : Insn) → insn ≡ nop → is_direct_branch insn.op ≡ true → ⊥
 nop_false insn e b = let c : is_direct_branch nop.op ≡ true = sym (ap (λ (i : Insn). is_direct_branch i.op) e) ∙ b in absurd cc
@@ -124,7 +130,8 @@ unfolding nop_chunks chunks_swept
 nop_chunks_branch Good at zero = All-nil (OnBranch Good)
 nop_chunks_branch Good at (suc n) =
     All-append (OnBranch Good) (chunk_swept at (Alone nop_coded)) (chunks_swept (at + length (chunk_text (Alone nop_coded))) (nop_chunks n))
-    (alone_branch Good at nop_coded (λ b. absurd (nop_false (insn_in nop_coded) nop_insn b))) (nop_chunks_branch Good (at + length (chunk_text (Alone nop_coded))) n)
+    (alone_branch Good at nop_coded (λ b. absurd (nop_false (insn_in nop_coded) nop_insn b)))
+    (nop_chunks_branch Good (at + length (chunk_text (Alone nop_coded))) n)
 
 -- ---- edges
 
@@ -147,8 +154,20 @@ edge_right a b at e = record {
 pub edge_begins : (cs : List Chunk) (c : Chunk) (at : ℕ) → IsEdge cs at → Begins (cs ++ (c ∷ [])) at
 edge_begins cs c at e = by_behind e.before e.behind e.parts e.place where
   by_behind : (before behind : List Chunk) → cs ≡ before ++ behind → at ≡ length (chunks_text before) → Begins (cs ++ (c ∷ [])) at
-  by_behind before [] parts place = record { before = before; chunk = c; behind = []; parts = ap (λ xs. xs ++ (c ∷ [])) parts ∙ append_assoc before [] (c ∷ []); place = place }
-  by_behind before (d ∷ behind) parts place = record { before = before; chunk = d; behind = behind ++ (c ∷ []); parts = ap (λ xs. xs ++ (c ∷ [])) parts ∙ append_assoc before (d ∷ behind) (c ∷ []); place = place }
+  by_behind before [] parts place = record {
+    before = before;
+    chunk = c;
+    behind = [];
+    parts = ap (λ xs. xs ++ (c ∷ [])) parts ∙ append_assoc before [] (c ∷ []);
+    place = place;
+  }
+  by_behind before (d ∷ behind) parts place = record {
+    before = before;
+    chunk = d;
+    behind = behind ++ (c ∷ []);
+    parts = ap (λ xs. xs ++ (c ∷ [])) parts ∙ append_assoc before (d ∷ behind) (c ∷ []);
+    place = place;
+  }
 
 pub first_edge : (cs : List Chunk) → IsEdge cs 0
 first_edge cs = record { before = []; behind = cs; parts = refl; place = refl }
@@ -167,7 +186,8 @@ pub nop_chunks_relocs : (at n : ℕ) → chunks_relocs at (nop_chunks n) ≡ []
 unfolding nop_chunks chunks_relocs
 nop_chunks_relocs at zero = refl
 nop_chunks_relocs at (suc n) =
-    ap (λ xs. map (Rattle.built_images.specs.Filled.reloc_later at) xs ++ chunks_relocs (at + length (chunk_text (Alone nop_coded))) (nop_chunks n)) nop_relocs
+    ap (λ xs. map (Rattle.built_images.specs.Filled.reloc_later at) xs ++ chunks_relocs (at + length (chunk_text (Alone nop_coded)))
+    (nop_chunks n)) nop_relocs
     ∙ nop_chunks_relocs (at + length (chunk_text (Alone nop_coded))) n
 
 pub nop_chunks_fields : (n : ℕ) → HaveFields (nop_chunks n)

@@ -44,18 +44,24 @@ made_words os p r n = sum_small r.relative _ n _
 abbrev made_for : List ObjectParts → ℕ × ObjectParts → Reloc → ℕ → ℕ
 made_for os p = relocated (bases os) (globals os) p
 
-fold_of_text : (os : List ObjectParts) (p : ℕ × ObjectParts) (bytes : List ℕ) (rs : List Reloc) → fold (filled (bases os) (globals os) p true) bytes rs ≡ fold (fill (made_for os p)) bytes (filter (is_of true) rs)
+fold_of_text : (os : List ObjectParts) (p : ℕ × ObjectParts) (bytes : List ℕ) (rs : List Reloc)
+    → fold (filled (bases os) (globals os) p true) bytes rs ≡ fold (fill (made_for os p)) bytes (filter (is_of true) rs)
 unfolding filled
 fold_of_text os p bytes [] = refl
-fold_of_text os p bytes (r ∷ rs) = by_kind r.in_text (fold_of_text os p (fill (made_for os p) bytes r) rs) (fold_of_text os p bytes rs) where
-  by_kind : (b : Bool)
-      → fold (filled (bases os) (globals os) p true) (fill (made_for os p) bytes r) rs ≡ fold (fill (made_for os p)) (fill (made_for os p) bytes r) (filter (is_of true) rs)
-      → fold (filled (bases os) (globals os) p true) bytes rs ≡ fold (fill (made_for os p)) bytes (filter (is_of true) rs)
-      → fold (filled (bases os) (globals os) p true) (cond b (fill (made_for os p) bytes r) bytes) rs ≡ fold (fill (made_for os p)) bytes (cond b (r ∷ filter (is_of true) rs) (filter (is_of true) rs))
-  by_kind true first second = first
-  by_kind false first second = second
+fold_of_text os p bytes (r ∷ rs) =
+    by_kind r.in_text (fold_of_text os p (fill (made_for os p) bytes r) rs) (fold_of_text os p bytes rs) where
+      by_kind : (b : Bool)
+          → fold (filled (bases os) (globals os) p true) (fill (made_for os p) bytes r) rs ≡ fold (fill (made_for os p))
+          (fill (made_for os p) bytes r) (filter (is_of true) rs)
+          → fold (filled (bases os) (globals os) p true) bytes rs ≡ fold (fill (made_for os p)) bytes (filter (is_of true) rs)
+          → fold (filled (bases os) (globals os) p true) (cond b (fill (made_for os p) bytes r) bytes) rs ≡ fold
+          (fill (made_for os p)) bytes
+          (cond b (r ∷ filter (is_of true) rs) (filter (is_of true) rs))
+      by_kind true first second = first
+      by_kind false first second = second
 
-filled_text : (os : List ObjectParts) (i : ℕ) (o : ObjectParts) (cs : List Chunk) → IsPadded o cs → with_fields (bases os) (globals os) (i, o) true ≡ fold (fill (made_for os (i, o))) (chunks_text cs) (chunks_relocs 0 cs)
+filled_text : (os : List ObjectParts) (i : ℕ) (o : ObjectParts) (cs : List Chunk) → IsPadded o cs
+    → with_fields (bases os) (globals os) (i, o) true ≡ fold (fill (made_for os (i, o))) (chunks_text cs) (chunks_relocs 0 cs)
 unfolding with_fields
 filled_text os i o cs h =
     fold_of_text os (i, o) o.text o.relocs
@@ -64,13 +70,16 @@ filled_text os i o cs h =
 
 -- ---- sites and edges further on
 
-later_site : (n at len : ℕ) (k : Option Rattle.ia32_types.specs.declared.site.SiteKind.SiteKind) → site_at (n + at) k len ≡ map (moved n) (site_at at k len)
+later_site : (n at len : ℕ) (k : Option Rattle.ia32_types.specs.declared.site.SiteKind.SiteKind)
+    → site_at (n + at) k len ≡ map (moved n) (site_at at k len)
 later_site n at len None = refl
-later_site n at len (Some k) = let e : n + at ≡ at + n = omega arith in ap (λ (m : ℕ). record { at = m; kind = k; len = len; total = Rattle.std.specs.Prelude.max 5 len } ∷ []) e
+later_site n at len (Some k) = let e : n + at ≡ at + n =
+    omega arith in ap (λ (m : ℕ). record { at = m; kind = k; len = len; total = Rattle.std.specs.Prelude.max 5 len } ∷ []) e
 
 later_chunk : (n at : ℕ) (c : Chunk) → chunk_site (n + at) c ≡ map (moved n) (chunk_site at c)
 later_chunk n at (Alone c) = later_site n at (length c.bytes) _
-later_chunk n at Pair = let e : n + at ≡ at + n = omega arith in ap (λ (m : ℕ). record { at = m; kind = Rattle.ia32_types.specs.declared.site.SiteKind.TheVariants.StiHlt; len = 2; total = 5 } ∷ []) e
+later_chunk n at Pair = let e : n + at ≡ at + n = omega arith in
+    ap (λ (m : ℕ). record { at = m; kind = Rattle.ia32_types.specs.declared.site.SiteKind.TheVariants.StiHlt; len = 2; total = 5 } ∷ []) e
 
 pub later_sites : (n at : ℕ) (cs : List Chunk) → chunk_sites (n + at) cs ≡ map (moved n) (chunk_sites at cs)
 unfolding chunk_sites
@@ -87,7 +96,8 @@ pub filled_edge : (made : Reloc → ℕ → ℕ) (at : ℕ) (cs ds : List Chunk)
 filled_edge made at cs ds v f e =
     let p = pre made at e.before e.behind ds (subst (λ (xs : List Chunk). AreFilled made at xs ds) e.parts f) in
     record { before = p.0; behind = p.1; parts = p.2; place = e.place ∙ sym p.3 } where
-      pre : (made : Reloc → ℕ → ℕ) (at : ℕ) (before behind ds : List Chunk) → AreFilled made at (before ++ behind) ds → (b : List Chunk) × (r : List Chunk) × (ds ≡ b ++ r) × (length (chunks_text b) ≡ length (chunks_text before))
+      pre : (made : Reloc → ℕ → ℕ) (at : ℕ) (before behind ds : List Chunk) → AreFilled made at (before ++ behind) ds → (b : List Chunk)
+          × (r : List Chunk) × (ds ≡ b ++ r) × (length (chunks_text b) ≡ length (chunks_text before))
       pre made at [] behind ds f = ([], ds, refl, refl)
       pre made at (c ∷ before) behind [] f = absurd f
       pre made at (c ∷ before) behind (d ∷ ds) f =
@@ -102,16 +112,19 @@ filled_edge made at cs ds v f e =
 
 more_than : (xs ys : List ℕ) (n : ℕ) → take (length xs + n) (xs ++ ys) ≡ xs ++ take n ys
 more_than [] ys n = let e : 0 + n ≡ n = omega arith in ap (λ m. take m ys) e
-more_than (x ∷ xs) ys n = let e : suc (length xs) + n ≡ suc (length xs + n) = omega arith in ap (λ m. take m (x ∷ (xs ++ ys))) e ∙ ap (λ zs. x ∷ zs) (more_than xs ys n)
+more_than (x ∷ xs) ys n = let e : suc (length xs) + n ≡ suc (length xs + n) =
+    omega arith in ap (λ m. take m (x ∷ (xs ++ ys))) e ∙ ap (λ zs. x ∷ zs) (more_than xs ys n)
 
 -- the objects from a number on are those of the list
 abbrev pub AreFrom : List ObjectParts → ℕ → List ObjectParts → Type 0
 AreFrom os i rest = (k : ℕ) (o : ObjectParts) → slice_get rest k ≡ Some o → slice_get os (i + k) ≡ Some o
 
-pub from_next : (os : List ObjectParts) (i : ℕ) (o : ObjectParts) (rest : List ObjectParts) → AreFrom os i (o ∷ rest) → AreFrom os (i + 1) rest
+pub from_next : (os : List ObjectParts) (i : ℕ) (o : ObjectParts) (rest : List ObjectParts) → AreFrom os i (o ∷ rest)
+    → AreFrom os (i + 1) rest
 from_next os i o rest h = λ k p e. let s : (i + 1) + k ≡ i + suc k = omega arith in ap (slice_get os) s ∙ h (suc k) p e
 
-pub from_first : (os : List ObjectParts) (i : ℕ) (o : ObjectParts) (rest : List ObjectParts) → AreFrom os i (o ∷ rest) → slice_get os i ≡ Some o
+pub from_first : (os : List ObjectParts) (i : ℕ) (o : ObjectParts) (rest : List ObjectParts) → AreFrom os i (o ∷ rest)
+    → slice_get os i ≡ Some o
 from_first os i o rest h = let z : i ≡ i + 0 = omega arith in ap (slice_get os) z ∙ h 0 o refl
 
 next_at : (os : List ObjectParts) (i : ℕ) (o : ObjectParts) → slice_get os i ≡ Some o → text_at os (i + 1) ≡ text_at os i + text_room o
@@ -125,7 +138,8 @@ next_at os i o e =
 
 -- what is asked of the branches of each object
 abbrev pub ObjectsRight : (List Chunk → Type 0) → (ℕ → Type 0) → List ObjectParts → Type 0
-ObjectsRight More Good os = (i : ℕ) (o : ObjectParts) (cs : List Chunk) → slice_get os i ≡ Some o → IsPadded o cs → More cs → AllRight Good (text_at os i) (made_for os (i, o)) 0 cs
+ObjectsRight More Good os = (i : ℕ) (o : ObjectParts) (cs : List Chunk) → slice_get os i ≡ Some o → IsPadded o cs → More cs
+    → AllRight Good (text_at os i) (made_for os (i, o)) 0 cs
 
 pub record OneObject (Good : ℕ → Type 0) (os : List ObjectParts) (i : ℕ) (o : ObjectParts) : Type 0 where
   pub chunks : List Chunk
@@ -144,7 +158,8 @@ object_sites o ss e = by (sites_in o.sites) e
     by (Ok s) h = cc
     by (Err at) h = cc
 
-pub one_object : (More : List Chunk → Type 0) (Good : ℕ → Type 0) (os : List ObjectParts) (i : ℕ) (o : ObjectParts) (cs : List Chunk) → slice_get os i ≡ Some o → IsPadded o cs → More cs → ObjectsRight More Good os → OneObject Good os i o
+pub one_object : (More : List Chunk → Type 0) (Good : ℕ → Type 0) (os : List ObjectParts) (i : ℕ) (o : ObjectParts) (cs : List Chunk)
+    → slice_get os i ≡ Some o → IsPadded o cs → More cs → ObjectsRight More Good os → OneObject Good os i o
 one_object More Good os i o cs there h more right =
     let made = made_for os (i, o) in
     let f = chunks_filled made [] cs (made_words os (i, o)) h.chunks h.fields in
@@ -160,7 +175,9 @@ one_object More Good os i o cs there h more right =
           ∙ later_sites (text_at os i) 0 cs
           ∙ ap (map (moved (text_at os i))) (sym (object_sites o (chunk_sites 0 cs) h.annotated));
       edges = λ s c e. filled_edge made 0 cs f.chunks s.value f.filled (h.labels s c e);
-      branches = subst (λ (n : ℕ). All (OnBranch Good) (chunks_swept n f.chunks)) z (filled_branches Good (text_at os i) made 0 cs f.chunks (made_words os (i, o)) f.are f.filled h.branches (right i o cs there h more));
+      branches = subst (λ (n : ℕ). All (OnBranch Good) (chunks_swept n f.chunks)) z
+          (filled_branches Good (text_at os i) made 0 cs f.chunks (made_words os (i, o)) f.are f.filled h.branches
+          (right i o cs there h more));
     }
 
 pub record FromObject (Good : ℕ → Type 0) (os : List ObjectParts) (i : ℕ) (rest : List ObjectParts) : Type 0 where
@@ -169,7 +186,8 @@ pub record FromObject (Good : ℕ → Type 0) (os : List ObjectParts) (i : ℕ) 
   pub text : take (text_end rest) (texts os (enumerate_from i rest)) ≡ chunks_text chunks
   pub size : length (chunks_text chunks) ≡ text_end rest
   pub sites : chunk_sites (text_at os i) chunks ≡ flat_map (moved_sites os) (enumerate_from i rest)
-  pub edges : (k : ℕ) (o : ObjectParts) → slice_get rest k ≡ Some o → (s : Symbol) → Contains o.symbols s → s.place ≡ Text → IsEdge chunks (text_at rest k + s.value)
+  pub edges : (k : ℕ) (o : ObjectParts) → slice_get rest k ≡ Some o → (s : Symbol) → Contains o.symbols s → s.place ≡ Text
+      → IsEdge chunks (text_at rest k + s.value)
   pub branches : All (OnBranch Good) (chunks_swept (text_at os i) chunks)
 
 abbrev gap : ObjectParts → ℕ
@@ -185,13 +203,16 @@ first_text cs n = text_append cs (nop_chunks n) ∙ ap (λ xs. chunks_text cs ++
 
 first_sites : (at : ℕ) (cs : List Chunk) (n : ℕ) → chunk_sites at (first_part cs n) ≡ chunk_sites at cs
 unfolding first_part
-first_sites at cs n = sites_append at cs (nop_chunks n) ∙ ap (λ xs. chunk_sites at cs ++ xs) (nop_chunks_sites (at + length (chunks_text cs)) n) ∙ append-nil (chunk_sites at cs)
+first_sites at cs n = sites_append at cs (nop_chunks n)
+    ∙ ap (λ xs. chunk_sites at cs ++ xs) (nop_chunks_sites (at + length (chunks_text cs)) n) ∙ append-nil (chunk_sites at cs)
 
-first_branches : (Good : ℕ → Type 0) (at : ℕ) (cs : List Chunk) (n : ℕ) → All (OnBranch Good) (chunks_swept at cs) → All (OnBranch Good) (chunks_swept at (first_part cs n))
+first_branches : (Good : ℕ → Type 0) (at : ℕ) (cs : List Chunk) (n : ℕ) → All (OnBranch Good) (chunks_swept at cs)
+    → All (OnBranch Good) (chunks_swept at (first_part cs n))
 unfolding first_part
 first_branches Good at cs n h =
     subst (λ (xs : List Swept). All (OnBranch Good) xs) (sym (swept_append at cs (nop_chunks n)))
-    (All-append (OnBranch Good) (chunks_swept at cs) (chunks_swept (at + length (chunks_text cs)) (nop_chunks n)) h (nop_chunks_branch Good (at + length (chunks_text cs)) n))
+    (All-append (OnBranch Good) (chunks_swept at cs) (chunks_swept (at + length (chunks_text cs)) (nop_chunks n)) h
+    (nop_chunks_branch Good (at + length (chunks_text cs)) n))
 
 first_are : (cs : List Chunk) (n : ℕ) → AreChunks cs → AreChunks (first_part cs n)
 unfolding first_part
@@ -201,7 +222,8 @@ first_edge : (cs : List Chunk) (n at : ℕ) → IsEdge cs at → IsEdge (first_p
 unfolding first_part
 first_edge cs n at e = edge_left cs (nop_chunks n) at e
 
-two_parts : (Good : ℕ → Type 0) (os : List ObjectParts) (i : ℕ) (o q : ObjectParts) (rest : List ObjectParts) → slice_get os i ≡ Some o → OneObject Good os i o → FromObject Good os (i + 1) (q ∷ rest) → FromObject Good os i (o ∷ q ∷ rest)
+two_parts : (Good : ℕ → Type 0) (os : List ObjectParts) (i : ℕ) (o q : ObjectParts) (rest : List ObjectParts) → slice_get os i ≡ Some o
+    → OneObject Good os i o → FromObject Good os (i + 1) (q ∷ rest) → FromObject Good os i (o ∷ q ∷ rest)
 unfolding text_end
 two_parts Good os i o q rest there one more =
     let p = with_fields (bases os) (globals os) (i, o) true in
@@ -215,7 +237,8 @@ two_parts Good os i o q rest there one more =
     let room : length (chunks_text first) ≡ text_room o = ap length text ∙ omega (arith, whole, nops, len, pads) in
     let padded_room : length (padded 16 0x90 p) ≡ text_room o = ap length (sym text) ∙ room in
     let later = texts os (enumerate_from (i + 1) (q ∷ rest)) in
-    let at : text_at os i + length (chunks_text first) ≡ text_at os (i + 1) = ap (λ m. text_at os i + m) room ∙ sym (next_at os i o there) in
+    let at : text_at os i + length (chunks_text first) ≡ text_at os (i + 1) =
+    ap (λ m. text_at os i + m) room ∙ sym (next_at os i o there) in
     record {
       chunks = first ++ more.chunks;
       are = chunks_join first more.chunks (first_are one.chunks n one.are) more.are;
@@ -234,21 +257,29 @@ two_parts Good os i o q rest there one more =
       edges = in_both o first (q ∷ rest) more.chunks room (λ s c t. first_edge one.chunks n s.value (one.edges s c t)) more.edges;
       branches =
           subst (λ (xs : List Swept). All (OnBranch Good) xs) (sym (swept_append (text_at os i) first more.chunks))
-          (All-append (OnBranch Good) (chunks_swept (text_at os i) first) (chunks_swept (text_at os i + length (chunks_text first)) more.chunks)
+          (All-append (OnBranch Good) (chunks_swept (text_at os i) first)
+          (chunks_swept (text_at os i + length (chunks_text first)) more.chunks)
           (first_branches Good (text_at os i) one.chunks n one.branches)
           (subst (λ (m : ℕ). All (OnBranch Good) (chunks_swept m more.chunks)) (sym at) more.branches));
     } where
-      in_both : (o : ObjectParts) (first : List Chunk) (rest : List ObjectParts) (behind : List Chunk) → length (chunks_text first) ≡ text_room o → ((s : Symbol) → Contains o.symbols s → s.place ≡ Text → IsEdge first s.value) → ((k : ℕ) (p : ObjectParts) → slice_get rest k ≡ Some p → (s : Symbol) → Contains p.symbols s → s.place ≡ Text → IsEdge behind (text_at rest k + s.value)) → (k : ℕ) (p : ObjectParts) → slice_get (o ∷ rest) k ≡ Some p → (s : Symbol) → Contains p.symbols s → s.place ≡ Text → IsEdge (first ++ behind) (text_at (o ∷ rest) k + s.value)
+      in_both : (o : ObjectParts) (first : List Chunk) (rest : List ObjectParts) (behind : List Chunk)
+          → length (chunks_text first) ≡ text_room o → ((s : Symbol) → Contains o.symbols s → s.place ≡ Text → IsEdge first s.value)
+          → ((k : ℕ) (p : ObjectParts) → slice_get rest k ≡ Some p → (s : Symbol) → Contains p.symbols s → s.place ≡ Text → IsEdge behind
+          (text_at rest k + s.value)) → (k : ℕ) (p : ObjectParts) → slice_get (o ∷ rest) k ≡ Some p → (s : Symbol) → Contains p.symbols s
+          → s.place ≡ Text → IsEdge (first ++ behind) (text_at (o ∷ rest) k + s.value)
       in_both o first rest behind len here there zero p e s c t =
           let same : o ≡ p = cc in
           let z : s.value ≡ 0 + s.value = omega arith in
-          subst (IsEdge (first ++ behind)) z (edge_left first behind s.value (here s (subst (λ (x : ObjectParts). Contains x.symbols s) (sym same) c) t))
+          subst (IsEdge (first ++ behind)) z
+          (edge_left first behind s.value (here s (subst (λ (x : ObjectParts). Contains x.symbols s) (sym same) c) t))
       in_both o first rest behind len here there (suc k) p e s c t =
           let sum = sum_by-cons text_room o (take k rest) in
-          let z : length (chunks_text first) + (text_at rest k + s.value) ≡ text_at (o ∷ rest) (suc k) + s.value = omega (arith, len, sum) in
+          let z : length (chunks_text first) + (text_at rest k + s.value) ≡ text_at (o ∷ rest) (suc k) + s.value =
+          omega (arith, len, sum) in
           subst (IsEdge (first ++ behind)) z (edge_right first behind (text_at rest k + s.value) (there k p e s c t))
 
-pub from_object : (More : List Chunk → Type 0) (Good : ℕ → Type 0) (os : List ObjectParts) (i : ℕ) (rest : List ObjectParts) → AreFrom os i rest → ArePadded More rest → ObjectsRight More Good os → FromObject Good os i rest
+pub from_object : (More : List Chunk → Type 0) (Good : ℕ → Type 0) (os : List ObjectParts) (i : ℕ) (rest : List ObjectParts)
+    → AreFrom os i rest → ArePadded More rest → ObjectsRight More Good os → FromObject Good os i rest
 unfolding text_end chunk_sites chunks_swept
 from_object More Good os i [] from h right = record {
   chunks = [];
@@ -266,13 +297,16 @@ from_object More Good os i (o ∷ []) from h right =
     record {
       chunks = one.chunks;
       are = one.are;
-      text = ap (take (text_size o)) (append-nil (padded 16 0x90 p)) ∙ take_at p (replicate (pad 16 (length p)) 0x90) (text_size o) len ∙ one.text;
+      text = ap (take (text_size o)) (append-nil (padded 16 0x90 p))
+          ∙ take_at p (replicate (pad 16 (length p)) 0x90) (text_size o) len ∙ one.text;
       size = one.size;
       sites = one.sites ∙ sym (append-nil (moved_sites os (i, o)));
       edges = only o one.chunks one.edges;
       branches = one.branches;
     } where
-      only : (o : ObjectParts) (chunks : List Chunk) → ((s : Symbol) → Contains o.symbols s → s.place ≡ Text → IsEdge chunks s.value) → (k : ℕ) (p : ObjectParts) → slice_get (o ∷ []) k ≡ Some p → (s : Symbol) → Contains p.symbols s → s.place ≡ Text → IsEdge chunks (text_at (o ∷ []) k + s.value)
+      only : (o : ObjectParts) (chunks : List Chunk) → ((s : Symbol) → Contains o.symbols s → s.place ≡ Text → IsEdge chunks s.value)
+          → (k : ℕ) (p : ObjectParts) → slice_get (o ∷ []) k ≡ Some p → (s : Symbol) → Contains p.symbols s → s.place ≡ Text
+          → IsEdge chunks (text_at (o ∷ []) k + s.value)
       only o chunks edges zero p e s c t =
           let same : o ≡ p = cc in
           let z : s.value ≡ 0 + s.value = omega arith in

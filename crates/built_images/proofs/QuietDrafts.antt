@@ -51,7 +51,8 @@ pub quiet_instruction : (o : Op) (s : Size) (a b : NumberedOperand) → is_direc
 unfolding instruction
 quiet_instruction o s a b e = e
 
-pub quiet_number : (o : Op) (s : Size) (a b : NumberedOperand) (t : Size) (n : Number) → is_direct_branch o ≡ false → IsQuiet (Some (with_number (instruction o s a b) t n))
+pub quiet_number : (o : Op) (s : Size) (a b : NumberedOperand) (t : Size) (n : Number) → is_direct_branch o ≡ false
+    → IsQuiet (Some (with_number (instruction o s a b) t n))
 unfolding instruction with_number
 quiet_number o s a b t n e = e
 
@@ -69,14 +70,16 @@ quiet_memory s (pair.FromMemory place n) = quiet_instruction op.Test s place (re
 
 pub quiet_of_one : (own : Option Size) (o : Op) (t : Option Size) (g : Given) → is_direct_branch o ≡ false → IsQuiet (of_one own o t g)
 unfolding of_one
-quiet_of_one own o t g e = bound (register_or_memory g) _ (λ place. bound (agreed t (said g) own) _ (λ s. quiet_instruction o s place nothing e))
+quiet_of_one own o t g e =
+    bound (register_or_memory g) _ (λ place. bound (agreed t (said g) own) _ (λ s. quiet_instruction o s place nothing e))
 
 pub quiet_one : (o : Op) (t : Option Size) (g : Given) → is_direct_branch o ≡ false → IsQuiet (one o t g)
 quiet_one o t g e = quiet_of_one None o t g e
 
 quiet_to : (o : Op) (t : Option Size) (a b : Given) → is_direct_branch o ≡ false → IsQuiet (to_register o t a b)
 unfolding to_register
-quiet_to o t a (given.Register u n) e = bound (register_or_memory a) _ (λ place. bound (agreed t (said a) (Some u)) _ (λ s. quiet_instruction o s (register_operand n) place e))
+quiet_to o t a (given.Register u n) e =
+    bound (register_or_memory a) _ (λ place. bound (agreed t (said a) (Some u)) _ (λ s. quiet_instruction o s (register_operand n) place e))
 quiet_to o t a _ e = tt
 
 quiet_with : (d : Option Draft) (t : Size) (n : Number) → IsQuiet d → IsQuiet (d >>= λ x. Some (with_number x t n))
@@ -84,14 +87,19 @@ unfolding with_number
 quiet_with None t n h = tt
 quiet_with (Some d) t n h = h
 
-pub quiet_arithmetic : (k : Arithmetic) (t : Option Size) (os : Operands) → (arithmetic_ok : (o : Op) → (k ≡ arithmetic.Two o) ⊎ (k ≡ arithmetic.One o) → is_direct_branch o ≡ false) → IsQuiet (arithmetic_draft k t os)
+pub quiet_arithmetic : (k : Arithmetic) (t : Option Size) (os : Operands)
+    → (arithmetic_ok : (o : Op) → (k ≡ arithmetic.Two o) ⊎ (k ≡ arithmetic.One o) → is_direct_branch o ≡ false)
+    → IsQuiet (arithmetic_draft k t os)
 unfolding arithmetic_draft of_two
-quiet_arithmetic (arithmetic.Two o) t (operands.Two a b) h = bound (paired a b) _ (λ p. bound (agreed t (said a) (said b)) _ (λ s. quiet_pair o s p (h o (inl refl))))
-quiet_arithmetic arithmetic.Test t (operands.Two a b) h = bound (paired a b) _ (λ p. bound (agreed t (said a) (said b)) _ (λ s. quiet_memory s p))
+quiet_arithmetic (arithmetic.Two o) t (operands.Two a b) h =
+    bound (paired a b) _ (λ p. bound (agreed t (said a) (said b)) _ (λ s. quiet_pair o s p (h o (inl refl))))
+quiet_arithmetic arithmetic.Test t (operands.Two a b) h =
+    bound (paired a b) _ (λ p. bound (agreed t (said a) (said b)) _ (λ s. quiet_memory s p))
 quiet_arithmetic (arithmetic.One o) t (operands.One g) h = quiet_one o t g (h o (inr refl))
 quiet_arithmetic arithmetic.Multiply t (operands.One g) h = quiet_one op.Imul t g refl
 quiet_arithmetic arithmetic.Multiply t (operands.Two a b) h = quiet_to op.Imul t a b refl
-quiet_arithmetic arithmetic.Multiply t (operands.Three (given.Immediate n) a b) h = quiet_with (to_register op.ImulBy t a b) size.Long n (quiet_to op.ImulBy t a b refl)
+quiet_arithmetic arithmetic.Multiply t (operands.Three (given.Immediate n) a b) h =
+    quiet_with (to_register op.ImulBy t a b) size.Long n (quiet_to op.ImulBy t a b refl)
 quiet_arithmetic arithmetic.Multiply t (operands.Three (given.Register x y) a b) h = tt
 quiet_arithmetic arithmetic.Multiply t (operands.Three (given.Segment x) a b) h = tt
 quiet_arithmetic arithmetic.Multiply t (operands.Three (given.Control x) a b) h = tt
@@ -111,10 +119,12 @@ pub quiet_shift : (o : Op) (t : Option Size) (os : Operands) → is_direct_branc
 unfolding shift_draft by_register instruction
 quiet_shift o t (operands.One g) e = quiet_count (one o t g) (quiet_one o t g e)
 quiet_shift o t (operands.Two (given.Immediate n) g) e = quiet_with (one o t g) size.Byte n (quiet_one o t g e)
-quiet_shift o t (operands.Two (given.Register size.Byte n) g) e = chosen (n == 1) (bound (register_or_memory g) _ (λ place. bound (agreed t (said g) None) _ (λ s. quiet_instruction o s place (register_operand 1) e))) where
-  chosen : (b : Bool) → IsQuiet (by_register o t g) → IsQuiet (cond b (by_register o t g) None)
-  chosen true h = h
-  chosen false h = tt
+quiet_shift o t (operands.Two (given.Register size.Byte n) g) e =
+    chosen (n == 1) (bound (register_or_memory g) _
+    (λ place. bound (agreed t (said g) None) _ (λ s. quiet_instruction o s place (register_operand 1) e))) where
+      chosen : (b : Bool) → IsQuiet (by_register o t g) → IsQuiet (cond b (by_register o t g) None)
+      chosen true h = h
+      chosen false h = tt
 quiet_shift o t (operands.Two (given.Register size.Word n) g) e = tt
 quiet_shift o t (operands.Two (given.Register size.Long n) g) e = tt
 quiet_shift o t (operands.Two (given.Segment n) g) e = tt
@@ -137,15 +147,20 @@ quiet_general t a b = bound (paired a b) _ (λ p. bound (agreed t (said a) (said
 
 quiet_to_special : (t : Option Size) (a b : Given) → IsQuiet (moved t a b)
 unfolding moved from_special to_special
-quiet_to_special t (given.Segment x) b = bound (register_or_memory b) _ (λ to. quiet_special op.ReadSeg t b to (of_operand (operand.Segment x)) refl)
-quiet_to_special t (given.Control x) b = bound (register_or_memory b) _ (λ to. quiet_special op.ReadControl t b to (of_operand (operand.Control x)) refl)
-quiet_to_special t a (given.Segment x) = bound (register_or_memory a) _ (λ from. quiet_special op.LoadSeg t a (of_operand (operand.Segment x)) from refl)
-quiet_to_special t a (given.Control x) = bound (register_or_memory a) _ (λ from. quiet_special op.WriteControl t a (of_operand (operand.Control x)) from refl)
+quiet_to_special t (given.Segment x) b =
+    bound (register_or_memory b) _ (λ to. quiet_special op.ReadSeg t b to (of_operand (operand.Segment x)) refl)
+quiet_to_special t (given.Control x) b =
+    bound (register_or_memory b) _ (λ to. quiet_special op.ReadControl t b to (of_operand (operand.Control x)) refl)
+quiet_to_special t a (given.Segment x) =
+    bound (register_or_memory a) _ (λ from. quiet_special op.LoadSeg t a (of_operand (operand.Segment x)) from refl)
+quiet_to_special t a (given.Control x) =
+    bound (register_or_memory a) _ (λ from. quiet_special op.WriteControl t a (of_operand (operand.Control x)) from refl)
 quiet_to_special t a b = quiet_general t a b
 
 quiet_extended : (o : Op) (s : Size) (a b : Given) → is_direct_branch o ≡ false → IsQuiet (extended o s a b)
 unfolding extended
-quiet_extended o s a (given.Register size.Long n) e = bound (register_or_memory a) _ (λ from. bound (agreed (Some s) (said a) None) _ (λ t. quiet_instruction o t (register_operand n) from e))
+quiet_extended o s a (given.Register size.Long n) e = bound (register_or_memory a) _
+    (λ from. bound (agreed (Some s) (said a) None) _ (λ t. quiet_instruction o t (register_operand n) from e))
 quiet_extended o s a _ e = tt
 
 quiet_effective : (t : Option Size) (a b : Given) → IsQuiet (effective t a b)
@@ -173,7 +188,8 @@ quiet_exchanged : (t : Option Size) (a b : Given) → IsQuiet (of_two exchange t
 unfolding of_two
 quiet_exchanged t a b = bound (paired a b) _ (λ p. bound (agreed t (said a) (said b)) _ (λ s. quiet_exchange s p))
 
-pub quiet_moves : (k : Moves) (t : Option Size) (os : Operands) → ((o : Op) (s : Size) → k ≡ moves.Extend o s → is_direct_branch o ≡ false) → IsQuiet (move_draft k t os)
+pub quiet_moves : (k : Moves) (t : Option Size) (os : Operands) → ((o : Op) (s : Size) → k ≡ moves.Extend o s → is_direct_branch o ≡ false)
+    → IsQuiet (move_draft k t os)
 unfolding move_draft
 quiet_moves moves.Move t (operands.Two a b) h = quiet_to_special t a b
 quiet_moves (moves.Extend o s) t (operands.Two a b) h = quiet_extended o s a b (h o s refl)
@@ -227,7 +243,8 @@ quiet_through : (o : Op) (s : Size) (g : Given) → is_direct_branch o ≡ false
 unfolding through
 quiet_through o s (given.Immediate n) e = quiet_number o s nothing nothing size.Byte n e
 quiet_through o s given.Port e = quiet_instruction o s nothing (register_operand 2) e
-quiet_through o s (given.Register size.Word n) e = quiet_if (n == 2) (Some (instruction o s nothing (register_operand 2))) (quiet_instruction o s nothing (register_operand 2) e)
+quiet_through o s (given.Register size.Word n) e =
+    quiet_if (n == 2) (Some (instruction o s nothing (register_operand 2))) (quiet_instruction o s nothing (register_operand 2) e)
 quiet_through o s (given.Register size.Byte n) e = tt
 quiet_through o s (given.Register size.Long n) e = tt
 quiet_through o s (given.Segment n) e = tt
@@ -236,17 +253,21 @@ quiet_through o s (given.Memory n) e = tt
 
 quiet_ported : (o : Op) (t : Option Size) (p g : Given) → is_direct_branch o ≡ false → IsQuiet (ported o t p g)
 unfolding ported
-quiet_ported o t p (given.Register u n) e = quiet_if (n == 0) (agreed t (Some u) None >>= λ s. through o s p) (bound (agreed t (Some u) None) _ (λ s. quiet_through o s p e))
+quiet_ported o t p (given.Register u n) e =
+    quiet_if (n == 0) (agreed t (Some u) None >>= λ s. through o s p) (bound (agreed t (Some u) None) _ (λ s. quiet_through o s p e))
 quiet_ported o t p _ e = tt
 
 quiet_task : (t : Option Size) (g : Given) → IsQuiet (task t g)
 unfolding task
-quiet_task t g = bound (register_or_memory g) _ (λ place. bound (agreed t (said g) (Some size.Word)) _ (λ s. quiet_instruction op.LoadTask size.Long place nothing refl))
+quiet_task t g = bound (register_or_memory g) _
+    (λ place. bound (agreed t (said g) (Some size.Word)) _ (λ s. quiet_instruction op.LoadTask size.Long place nothing refl))
 
-pub quiet_system : (k : System) (t : Option Size) (os : Operands) → ((o : Op) → k ≡ system.Memory o → is_direct_branch o ≡ false) → IsQuiet (system_draft k t os)
+pub quiet_system : (k : System) (t : Option Size) (os : Operands) → ((o : Op) → k ≡ system.Memory o → is_direct_branch o ≡ false)
+    → IsQuiet (system_draft k t os)
 unfolding system_draft
 quiet_system system.In t (operands.Two p to) h = quiet_ported op.PortIn t p to refl
 quiet_system system.Out t (operands.Two from p) h = quiet_ported op.PortOut t p from refl
-quiet_system (system.Memory o) t (operands.One (given.Memory m)) h = bound (agreed t (Some size.Long) None) _ (λ s. quiet_instruction o s (memory m) nothing (h o refl))
+quiet_system (system.Memory o) t (operands.One (given.Memory m)) h =
+    bound (agreed t (Some size.Long) None) _ (λ s. quiet_instruction o s (memory m) nothing (h o refl))
 quiet_system system.LoadTask t (operands.One g) h = quiet_task t g
 quiet_system _ t _ h = tt

@@ -74,10 +74,12 @@ far_imm bytes n sel e =
       is = l.is ∙ ap (λ (k : ℕ). read k []) v.0;
       four = l.four;
       size = omega (arith, two);
-      again = λ other m h. ap (λ x. and_then x (λ (k : ℕ). word_at >>= λ selector. success (k, selector))) (long_then other r.1 m h) ∙ ap (λ x. and_then x (λ (k : ℕ). success (m, k))) sel_is;
+      again = λ other m h. ap (λ x. and_then x (λ (k : ℕ). word_at >>= λ selector. success (k, selector))) (long_then other r.1 m h)
+          ∙ ap (λ x. and_then x (λ (k : ℕ). success (m, k))) sel_is;
     }
 
-pub imm_front : (i : Immediate) (bytes : List ℕ) (n sel : ℕ) → imm_len i ≡ 4 → immediate_at i bytes ≡ Ok ((n, sel), []) → ImmFront i bytes n sel
+pub imm_front : (i : Immediate) (bytes : List ℕ) (n sel : ℕ) → imm_len i ≡ 4 → immediate_at i bytes ≡ Ok ((n, sel), [])
+    → ImmFront i bytes n sel
 imm_front immediate.Nothing bytes n sel four e = absurd (omega arith)
 imm_front immediate.One bytes n sel four e = absurd (omega arith)
 imm_front immediate.Byte bytes n sel four e = absurd (omega arith)
@@ -93,7 +95,8 @@ pub record DispBack (p : Reader (ℕ × ℕ)) (bytes : List ℕ) (d : ℕ) : Typ
   pub again : (other : List ℕ) (m : ℕ) → long_at other ≡ Ok (m, []) → p other ≡ Ok ((m, 4), [])
 
 abbrev sized_by : Bool → Bool → Reader (ℕ × ℕ)
-sized_by z o = cond z (success (0, 0)) (cond o (byte_at >>= λ b. success (sign_extended 32 size.Byte b, 1)) (long_at >>= λ k. success (k, 4)))
+sized_by z o =
+    cond z (success (0, 0)) (cond o (byte_at >>= λ b. success (sign_extended 32 size.Byte b, 1)) (long_at >>= λ k. success (k, 4)))
 
 by_size : (z o : Bool) (bytes : List ℕ) (d : ℕ) → sized_by z o bytes ≡ Ok ((d, 4), []) → DispBack (sized_by z o) bytes d
 by_size true o bytes d e =
@@ -138,12 +141,15 @@ same_sized rm n other e = (ap (λ (p : Operand × ℕ). p.0) e, ap (λ (p : Oper
 memory_back : (m : ℕ) (bytes : List ℕ) (rm : Operand) → memory_at m bytes ≡ Ok ((rm, 4), []) → AtBack (memory_at m) bytes rm sized
 unfolding memory_at
 memory_back m bytes rm e =
-    let r = and_then_ok (base_at m bytes) (λ place. disp_at (cond (is_none place.base) 2 (mod_of m)) >>= λ disp. success (operand_at place disp.0, disp.1)) (rm, 4) [] e in
-    let q = and_then_ok (disp_at (cond (is_none r.0.base) 2 (mod_of m)) r.1) (λ disp. success (operand_at r.0 disp.0, disp.1)) (rm, 4) [] r.3 in
+    let r = and_then_ok (base_at m bytes)
+    (λ place. disp_at (cond (is_none place.base) 2 (mod_of m)) >>= λ disp. success (operand_at place disp.0, disp.1)) (rm, 4) [] e in
+    let q =
+    and_then_ok (disp_at (cond (is_none r.0.base) 2 (mod_of m)) r.1) (λ disp. success (operand_at r.0 disp.0, disp.1)) (rm, 4) [] r.3 in
     let s = same_read (operand_at r.0 q.0.0, q.0.1) (rm, 4) q.1 [] q.3 in
     let v = same_sized (operand_at r.0 q.0.0) q.0.1 rm s.0 in
     let t = (base_reads m).takes bytes r.0 r.1 r.2 in
-    let d : disp_at (cond (is_none r.0.base) 2 (mod_of m)) r.1 ≡ Ok ((q.0.0, 4), []) = q.2 ∙ ap (λ (k : ℕ). read (pair q.0.0 k) q.1) v.1 ∙ ap (read (pair q.0.0 4)) s.1 in
+    let d : disp_at (cond (is_none r.0.base) 2 (mod_of m)) r.1 ≡ Ok ((q.0.0, 4), []) =
+    q.2 ∙ ap (λ (k : ℕ). read (pair q.0.0 k) q.1) v.1 ∙ ap (read (pair q.0.0 4)) s.1 in
     let b = disp_back (cond (is_none r.0.base) 2 (mod_of m)) r.1 q.0.0 d in
     subst (λ (x : Operand). AtBack (memory_at m) bytes x sized) v.0 (record {
       front = t.front;
@@ -151,11 +157,13 @@ memory_back m bytes rm e =
       parts = t.parts;
       is = b.is;
       again = λ other k h.
-          ap (λ x. and_then x (λ place. disp_at (cond (is_none place.base) 2 (mod_of m)) >>= λ disp. success (operand_at place disp.0, disp.1))) (t.again other)
+          ap (λ x. and_then x (λ place. disp_at (cond (is_none place.base) 2 (mod_of m)) >>= λ disp. success
+          (operand_at place disp.0, disp.1))) (t.again other)
           ∙ ap (λ x. and_then x (λ (disp : ℕ × ℕ). success (operand_at r.0 disp.0, disp.1))) (b.again other k h);
     })
 
-by_mode : (b : Bool) (m : ℕ) (bytes : List ℕ) (rm : Operand) → cond b (success (operand.Register (rm_of m), 0)) (memory_at m) bytes ≡ Ok ((rm, 4), []) → AtBack (cond b (success (operand.Register (rm_of m), 0)) (memory_at m)) bytes rm sized
+by_mode : (b : Bool) (m : ℕ) (bytes : List ℕ) (rm : Operand) → cond b (success (operand.Register (rm_of m), 0)) (memory_at m) bytes ≡ Ok
+    ((rm, 4), []) → AtBack (cond b (success (operand.Register (rm_of m), 0)) (memory_at m)) bytes rm sized
 by_mode true m bytes rm e =
     let s = same_read (operand.Register (rm_of m), 0) (rm, 4) bytes [] e in
     let v = same_sized (operand.Register (rm_of m)) 0 rm s.0 in
@@ -175,7 +183,8 @@ same_located a b e = (ap (λ (l : Located). l.reg) e, ap (λ (l : Located). l.rm
 abbrev plain_at : ℕ → Operand
 plain_at d = operand.Memory (record { base = None; index = None; scale = 1; disp = d })
 
-pub addressing_back : (a : Addressing) (bytes : List ℕ) (reg : ℕ) (rm : Operand) → addressing_at a bytes ≡ Ok (located reg rm, []) → AtBack (addressing_at a) bytes rm (located reg)
+pub addressing_back : (a : Addressing) (bytes : List ℕ) (reg : ℕ) (rm : Operand) → addressing_at a bytes ≡ Ok (located reg rm, [])
+    → AtBack (addressing_at a) bytes rm (located reg)
 unfolding addressing_at
 addressing_back addressing.Nothing bytes reg rm e =
     let s = same_read (record { reg = 0; rm = operand.Absent; disp_len = 0 }) (located reg rm) bytes [] e in
@@ -191,14 +200,17 @@ addressing_back addressing.Offset bytes reg rm e =
       word = bytes;
       parts = refl;
       is = is;
-      again = λ other k h. ap (λ x. and_then x (λ (d : ℕ). success (located 0 (plain_at d)))) h ∙ ap (λ (n : ℕ). read (located n (plain_at k)) []) v.0;
+      again = λ other k h. ap (λ x. and_then x (λ (d : ℕ). success (located 0 (plain_at d)))) h
+          ∙ ap (λ (n : ℕ). read (located n (plain_at k)) []) v.0;
     })
 addressing_back (addressing.Modrm form) bytes reg rm e =
-    let r = and_then_ok (byte_where (has_modrm form) bytes) (λ m. rm_at m >>= λ x. success (record { reg = reg_of m; rm = x.0; disp_len = x.1 })) (located reg rm) [] e in
+    let r = and_then_ok (byte_where (has_modrm form) bytes)
+    (λ m. rm_at m >>= λ x. success (record { reg = reg_of m; rm = x.0; disp_len = x.1 })) (located reg rm) [] e in
     let q = and_then_ok (rm_at r.0 r.1) (λ x. success (record { reg = reg_of r.0; rm = x.0; disp_len = x.1 })) (located reg rm) [] r.3 in
     let s = same_read (record { reg = reg_of r.0; rm = q.0.0; disp_len = q.0.1 }) (located reg rm) q.1 [] q.3 in
     let v = same_located (record { reg = reg_of r.0; rm = q.0.0; disp_len = q.0.1 }) (located reg rm) s.0 in
-    let d : rm_at r.0 r.1 ≡ Ok ((rm, 4), []) = q.2 ∙ ap (λ (n : ℕ). read (q.0.0, n) q.1) v.2 ∙ ap (λ (o : Operand). read (sized o) q.1) v.1 ∙ ap (read (sized rm)) s.1 in
+    let d : rm_at r.0 r.1 ≡ Ok ((rm, 4), []) =
+    q.2 ∙ ap (λ (n : ℕ). read (q.0.0, n) q.1) v.2 ∙ ap (λ (o : Operand). read (sized o) q.1) v.1 ∙ ap (read (sized rm)) s.1 in
     let b = rm_back r.0 r.1 rm d in
     let f = byte_is (has_modrm form) bytes r.0 r.1 r.2 in
     record {
@@ -207,7 +219,9 @@ addressing_back (addressing.Modrm form) bytes reg rm e =
       parts = f.0 ∙ ap (λ (bs : List ℕ). r.0 ∷ bs) b.parts;
       is = b.is;
       again = λ other k h.
-          ap (λ t. and_then (cond t (read r.0 (b.front ++ other)) (Rattle.std.specs.Prelude.Err Rattle.ia32_rows.specs.declared.row.Miss.TheVariants.Outside)) (λ m. rm_at m >>= λ x. success (record { reg = reg_of m; rm = x.0; disp_len = x.1 }))) f.1
+          ap (λ t. and_then (cond t (read r.0 (b.front ++ other))
+          (Rattle.std.specs.Prelude.Err Rattle.ia32_rows.specs.declared.row.Miss.TheVariants.Outside)) (λ m. rm_at m
+          >>= λ x. success (record { reg = reg_of m; rm = x.0; disp_len = x.1 }))) f.1
           ∙ ap (λ x. and_then x (λ (o : Operand × ℕ). success (record { reg = reg_of r.0; rm = o.0; disp_len = o.1 }))) (b.again other k h)
           ∙ ap (λ (n : ℕ). read (located n (moved k rm)) []) v.0;
     }

@@ -125,20 +125,25 @@ only_code p bytes o =
     ∙ ap (λ n. n ∷ []) code
 
 -- the same of bytes that are read so
-pub sti_read : (row : Row) (p : Parts) (bytes : List ℕ) → Contains rows row → parts_at row.form bytes ≡ Ok (p, []) → kind_of row.op ≡ Some site.Sti → bytes ≡ 0xFB ∷ []
-sti_read row p bytes c read e = only_code p bytes (subst (λ form. IsLaidOut form p bytes) (sti_row row c e) ((in_pieces row c p bytes).0 read))
+pub sti_read : (row : Row) (p : Parts) (bytes : List ℕ) → Contains rows row → parts_at row.form bytes ≡ Ok (p, [])
+    → kind_of row.op ≡ Some site.Sti → bytes ≡ 0xFB ∷ []
+sti_read row p bytes c read e =
+    only_code p bytes (subst (λ form. IsLaidOut form p bytes) (sti_row row c e) ((in_pieces row c p bytes).0 read))
 
 no_disp : (p : Parts) (bytes : List ℕ) → IsLaidOut sti_form p bytes → p.disp_len ≡ 0
 unfolding addressing_at
 no_disp p bytes o = sym (ap (λ (l : Located). l.disp_len) (same_read _ _ o.address [] o.address_is).0)
 
-pub sti_no_disp : (row : Row) (p : Parts) (bytes : List ℕ) → Contains rows row → parts_at row.form bytes ≡ Ok (p, []) → kind_of row.op ≡ Some site.Sti → p.disp_len ≡ 0
-sti_no_disp row p bytes c read e = no_disp p bytes (subst (λ form. IsLaidOut form p bytes) (sti_row row c e) ((in_pieces row c p bytes).0 read))
+pub sti_no_disp : (row : Row) (p : Parts) (bytes : List ℕ) → Contains rows row → parts_at row.form bytes ≡ Ok (p, [])
+    → kind_of row.op ≡ Some site.Sti → p.disp_len ≡ 0
+sti_no_disp row p bytes c read e =
+    no_disp p bytes (subst (λ form. IsLaidOut form p bytes) (sti_row row c e) ((in_pieces row c p bytes).0 read))
 
 pub sti_no_imm : (row : Row) → Contains rows row → kind_of row.op ≡ Some site.Sti → imm_len row.form.immediate ≡ 0
 sti_no_imm row c e = ap (λ (f : Form). imm_len f.immediate) (sti_row row c e)
 
-pub sti_bytes : (row : Row) (p : Parts) (bytes : List ℕ) → Contains rows row → SpellsBy row p bytes (insn_of row p) → sensitive_kind (insn_of row p) ≡ Some site.Sti → bytes ≡ 0xFB ∷ []
+pub sti_bytes : (row : Row) (p : Parts) (bytes : List ℕ) → Contains rows row → SpellsBy row p bytes (insn_of row p)
+    → sensitive_kind (insn_of row p) ≡ Some site.Sti → bytes ≡ 0xFB ∷ []
 sti_bytes row p bytes c s e =
     let f = sti_row row c (ap kind_of (sym (op_is row p)) ∙ e) in
     only_code p bytes (subst (λ form. IsLaidOut form p bytes) f ((in_pieces row c p bytes).0 s.read))

@@ -23,22 +23,35 @@ begins_more a b insn n h =
       front = subst (λ bs. Spells bs insn) (sym (take-append-le n a b within)) h.front;
     }
 
-pub to_append : (from to end : ℕ) (a b left : List ℕ) (first second : List Swept) → SweepsTo from a first to [] → SweepsTo to b second end left → SweepsTo from (a ++ b) (first ++ second) end left
+pub to_append : (from to end : ℕ) (a b left : List ℕ) (first second : List Swept) → SweepsTo from a first to []
+    → SweepsTo to b second end left → SweepsTo from (a ++ b) (first ++ second) end left
 to_append from to end a b left [] second h k =
-    subst (λ (at : ℕ). SweepsTo at (a ++ b) second end left) (sym h.0) (subst (λ (xs : List ℕ). SweepsTo to (xs ++ b) second end left) (sym h.1) k)
+    subst (λ (at : ℕ). SweepsTo at (a ++ b) second end left) (sym h.0)
+    (subst (λ (xs : List ℕ). SweepsTo to (xs ++ b) second end left) (sym h.1) k)
 to_append from to end a b left (s ∷ first) second h k =
-    let within = h.1.within in
-    (h.0, begins_more a b s.insn s.len h.1, subst (λ (xs : List ℕ). SweepsTo (from + s.len) xs (first ++ second) end left) (sym (drop-append-le s.len a b within)) (to_append (from + s.len) to end (drop s.len a) b left first second h.2 k))
+    let within = h.1.within in (
+      h.0,
+      begins_more a b s.insn s.len h.1,
+      subst (λ (xs : List ℕ). SweepsTo (from + s.len) xs (first ++ second) end left) (sym (drop-append-le s.len a b within))
+          (to_append (from + s.len) to end (drop s.len a) b left first second h.2 k),
+    )
 
-pub to_later : (n from to : ℕ) (bytes left : List ℕ) (swept : List Swept) → SweepsTo from bytes swept to left → SweepsTo (n + from) bytes (map (swept_later n) swept) (n + to) left
+pub to_later : (n from to : ℕ) (bytes left : List ℕ) (swept : List Swept) → SweepsTo from bytes swept to left
+    → SweepsTo (n + from) bytes (map (swept_later n) swept) (n + to) left
 to_later n from to bytes left [] h = (ap (λ k. n + k) h.0, h.1)
 to_later n from to bytes left (s ∷ swept) h =
-    let e : n + (from + s.len) ≡ (n + from) + s.len = omega arith in
-    (ap (λ k. n + k) h.0, h.1, subst (λ (at : ℕ). SweepsTo at (drop s.len bytes) (map (swept_later n) swept) (n + to) left) e (to_later n (from + s.len) to (drop s.len bytes) left swept h.2))
+    let e : n + (from + s.len) ≡ (n + from) + s.len = omega arith in (
+      ap (λ k. n + k) h.0,
+      h.1,
+      subst (λ (at : ℕ). SweepsTo at (drop s.len bytes) (map (swept_later n) swept) (n + to) left) e
+          (to_later n (from + s.len) to (drop s.len bytes) left swept h.2),
+    )
 
-pub sweeps_join : (a b : List ℕ) (first second : List Swept) → Sweep a first → Sweep b second → Sweep (a ++ b) (first ++ map (swept_later (length a)) second)
+pub sweeps_join : (a b : List ℕ) (first second : List Swept) → Sweep a first → Sweep b second
+    → Sweep (a ++ b) (first ++ map (swept_later (length a)) second)
 sweeps_join a b first second h k =
-    let later : SweepsTo (length a + 0) b (map (swept_later (length a)) second) (length a + length b) [] = to_later (length a) 0 (length b) b [] second k in
+    let later : SweepsTo (length a + 0) b (map (swept_later (length a)) second) (length a + length b) [] =
+    to_later (length a) 0 (length b) b [] second k in
     let from : length a + 0 ≡ length a = omega arith in
     let end : length a + length b ≡ length (a ++ b) = sym (length-append a b) in
     subst (λ (at : ℕ). SweepsTo 0 (a ++ b) (first ++ map (swept_later (length a)) second) at []) end
@@ -64,11 +77,13 @@ hlt_spelled = begins_whole (0xF4 ∷ []) hlt (begun (0xF4 ∷ []) hlt 1 (omega a
 
 pub jump_spelled : Spells (0xEB ∷ 0xFE ∷ []) jump_to_itself
 unfolding decoded answer_from rows parts_at coded_at lead_at addressing_at immediate_at insn_of
-jump_spelled = begins_whole (0xEB ∷ 0xFE ∷ []) jump_to_itself (begun (0xEB ∷ 0xFE ∷ []) jump_to_itself 2 (omega arith, (omega arith, tt)) refl) refl
+jump_spelled =
+    begins_whole (0xEB ∷ 0xFE ∷ []) jump_to_itself (begun (0xEB ∷ 0xFE ∷ []) jump_to_itself 2 (omega arith, (omega arith, tt)) refl) refl
 
 -- ---- a spelling in front, and NOPs
 
-pub one_sweeps : (at : ℕ) (bytes : List ℕ) (insn : Insn) → Spells bytes insn → SweepsTo at bytes (record { at = at; len = length bytes; insn = insn } ∷ []) (at + length bytes) []
+pub one_sweeps : (at : ℕ) (bytes : List ℕ) (insn : Insn) → Spells bytes insn
+    → SweepsTo at bytes (record { at = at; len = length bytes; insn = insn } ∷ []) (at + length bytes) []
 one_sweeps at bytes insn s =
     let b = subst (λ bs. Begins bs insn (length bytes)) (append-nil bytes) (reads_back bytes [] insn s) in
     let d = ap (drop (length bytes)) (sym (append-nil bytes)) ∙ drop_at bytes [] (length bytes) refl in
@@ -78,8 +93,11 @@ pub nops_sweep : (at n : ℕ) → SweepsTo at (replicate n 0x90) (nops_at at n) 
 unfolding nops_at
 nops_sweep at zero = (omega arith, refl)
 nops_sweep at (suc n) =
-    let e : (at + 1) + n ≡ at + suc n = omega arith in
-    (refl, reads_back (0x90 ∷ []) (replicate n 0x90) nop nop_spelled, subst (λ (to : ℕ). SweepsTo (at + 1) (replicate n 0x90) (nops_at (at + 1) n) to []) e (nops_sweep (at + 1) n))
+    let e : (at + 1) + n ≡ at + suc n = omega arith in (
+      refl,
+      reads_back (0x90 ∷ []) (replicate n 0x90) nop nop_spelled,
+      subst (λ (to : ℕ). SweepsTo (at + 1) (replicate n 0x90) (nops_at (at + 1) n) to []) e (nops_sweep (at + 1) n),
+    )
 
 pub nops_law : (n : ℕ) → Sweep (replicate n 0x90) (nops_at 0 n)
 nops_law n =

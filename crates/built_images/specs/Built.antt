@@ -36,4 +36,5 @@ LeadsRight cs = (s : Swept) → Contains (chunks_swept 0 cs) s → is_direct_bra
 
 -- The image is accepted, or it is refused for the target of a branch.
 abbrev pub IsAcceptedButForTargets : ImageParts → List Chunk → Type 0
-IsAcceptedButForTargets parts cs = (image_from parts ≡ Ok (image_with parts (chunk_sites 0 cs))) ⊎ ((at : ℕ) × (image_from parts ≡ Err (Wrong at Target)))
+IsAcceptedButForTargets parts cs =
+    (image_from parts ≡ Ok (image_with parts (chunk_sites 0 cs))) ⊎ ((at : ℕ) × (image_from parts ≡ Err (Wrong at Target)))

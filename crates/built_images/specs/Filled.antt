@@ -9,7 +9,8 @@ use Rattle.built_images.specs.Chunks.{Coded, Chunk, Alone, Pair, chunk_text}
 
 -- The offset is that of a displacement or of an immediate of four bytes.
 abbrev pub IsField : Coded → ℕ → Type 0
-IsField c at = ((c.parts.disp_len ≡ 4) × (at ≡ disp_place c.row c.bytes)) ⊎ ((imm_len c.row.form.immediate ≡ 4) × (at ≡ imm_place c.row c.bytes))
+IsField c at =
+    ((c.parts.disp_len ≡ 4) × (at ≡ disp_place c.row c.bytes)) ⊎ ((imm_len c.row.form.immediate ≡ 4) × (at ≡ imm_place c.row c.bytes))
 
 -- Each relocation stands in a field.
 abbrev pub HasFields : Chunk → Type 0

@@ -31,7 +31,8 @@ AreBurnt os = AllByRecursion IsBurnt os
 
 -- The item is no direct branch that names a symbol plus or minus a number.
 abbrev pub NamesNoNumber : Body → Type 0
-NamesNoNumber (body.Instruction rep name args) = (a : Assembled) → assembled rep name args ≡ Ok a → is_direct_branch a.insn.op ≡ true → AllByRecursion (λ (x : Argument). number_in x.form ≡ pos 0) args
+NamesNoNumber (body.Instruction rep name args) = (a : Assembled) → assembled rep name args ≡ Ok a → is_direct_branch a.insn.op ≡ true
+    → AllByRecursion (λ (x : Argument). number_in x.form ≡ pos 0) args
 NamesNoNumber _ = Unit {0}
 
 abbrev pub NameNoNumbers : List SourceItem → Type 0

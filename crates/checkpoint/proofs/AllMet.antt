@@ -46,7 +46,8 @@ met_in there d told none =
     let is_told : nat_le d.end there ≡ true = le-leb d.end there told in
     met_or_bad d.met d.at (sym (ap (λ (b : Bool). if b && not d.met then Some d.at else None) is_told) ∙ none)
 
-pub met_from_none : (limit there : ℕ) (ds : List Demand) → limit ≤ there → all_end limit ds ≡ true → first_bad there ds ≡ None → all_met ds ≡ true
+pub met_from_none : (limit there : ℕ) (ds : List Demand) → limit ≤ there → all_end limit ds ≡ true
+    → first_bad there ds ≡ None → all_met ds ≡ true
 unfolding first_bad
 met_from_none limit there [] far ends none = refl
 met_from_none limit there (d ∷ ds) far ends none =
@@ -57,7 +58,8 @@ met_from_none limit there (d ∷ ds) far ends none =
 
 -- bytes without a name
 
-pub zeros_from_none : (there at : ℕ) (bytes : List ℕ) → at + length bytes ≤ there → first_bad there (zero_demands at bytes) ≡ None → bytes ≡ replicate (length bytes) 0
+pub zeros_from_none : (there at : ℕ) (bytes : List ℕ) → at + length bytes ≤ there → first_bad there (zero_demands at bytes) ≡ None
+    → bytes ≡ replicate (length bytes) 0
 unfolding first_bad
 zeros_from_none there at [] near none = refl
 zeros_from_none there at (b ∷ bytes) near none =
@@ -126,10 +128,12 @@ of_seven there a b c d e f g s =
     (together there (a ++ b ++ c) d
     (together there (a ++ b) c (together there a b s.a_is s.b_is) s.c_is) s.d_is) s.e_is) s.f_is) s.g_is
 
-pub groups_from_none : (there : ℕ) (h : Head) → 256 ≤ there → length h.unnamed ≡ 14 → length h.rest ≡ 64 → first_bad there (demands h) ≡ None → Groups h
+pub groups_from_none : (there : ℕ) (h : Head) → 256 ≤ there → length h.unnamed ≡ 14 → length h.rest ≡ 64
+    → first_bad there (demands h) ≡ None → Groups h
 unfolding demands board_form
 groups_from_none there h far unnamed rest none =
-    let s = seven_of there (magic_demands h.magic) (count_demands h) (processor_demands h) (segments_demands h) (zero_demands 114 h.unnamed) (board_demands h.board) (zero_demands 192 h.rest) none in
+    let s = seven_of there (magic_demands h.magic) (count_demands h) (processor_demands h) (segments_demands h) (zero_demands 114 h.unnamed)
+    (board_demands h.board) (zero_demands 192 h.rest) none in
     record {
       magic = met_from_none 256 there (magic_demands h.magic) far refl s.a_is;
       counts = met_from_none 256 there (count_demands h) far refl s.b_is;
@@ -143,7 +147,8 @@ groups_from_none there h far unnamed rest none =
 pub none_from_groups : (there : ℕ) (h : Head) → Groups h → first_bad there (demands h) ≡ None
 unfolding demands board_form
 none_from_groups there h g =
-    of_seven there (magic_demands h.magic) (count_demands h) (processor_demands h) (segments_demands h) (zero_demands 114 h.unnamed) (board_demands h.board) (zero_demands 192 h.rest)
+    of_seven there (magic_demands h.magic) (count_demands h) (processor_demands h) (segments_demands h) (zero_demands 114 h.unnamed)
+    (board_demands h.board) (zero_demands 192 h.rest)
     (record {
       a_is = none_from_met there (magic_demands h.magic) g.magic;
       b_is = none_from_met there (count_demands h) g.counts;
@@ -158,7 +163,8 @@ none_from_groups there h g =
 pub counts_from_none : (there : ℕ) (h : Head) → 8 ≤ there → first_bad there (demands h) ≡ None → (2048 ≤ h.frames) × (h.frames ≤ 16384)
 unfolding demands first_bad
 counts_from_none there h far none =
-    let s = seven_of there (magic_demands h.magic) (count_demands h) (processor_demands h) (segments_demands h) (zero_demands 114 h.unnamed) (board_demands h.board) (zero_demands 192 h.rest) none in
+    let s = seven_of there (magic_demands h.magic) (count_demands h) (processor_demands h) (segments_demands h) (zero_demands 114 h.unnamed)
+    (board_demands h.board) (zero_demands 192 h.rest) none in
     let frames = nat_le 2048 h.frames && nat_le h.frames 16384 in
     let d : Demand = record { at = 4; end = 8; met = frames } in
     let double : Demand = record { at = 8; end = 16; met = nat_le h.step (2 ^ 40) } in

@@ -111,7 +111,8 @@ join : {ks bs cs ds : List ℕ} → ks ≡ bs → cs ≡ ds → ks ++ cs ≡ bs 
 join {ks} {bs} {cs} {ds} p q = ap (λ (xs : List ℕ). xs ++ cs) p ∙ ap (λ (xs : List ℕ). bs ++ xs) q
 
 chip_again : (b : List ℕ) (o : ℕ) → all_met (chip_demands b o) ≡ true → chip_bytes (chip_at b o) ≡
-    slice_index b o ∷ slice_index b (o + 1) ∷ slice_index b (o + 2) ∷ slice_index b (o + 3) ∷ slice_index b (o + 4) ∷ slice_index b (o + 5) ∷ slice_index b (o + 6) ∷ []
+    slice_index b o ∷ slice_index b (o + 1) ∷ slice_index b (o + 2) ∷ slice_index b (o + 3) ∷ slice_index b (o + 4) ∷ slice_index b
+    (o + 5) ∷ slice_index b (o + 6) ∷ []
 chip_again b o met =
     let f = and_parts (nat_le (slice_index b o) 4) _ met in
     let g = and_parts (nat_le (slice_index b (o + 1)) 1) _ f.1 in
@@ -152,7 +153,8 @@ timer_bytes_again b are long met =
     let period = ap (to_le_bytes w32) (period_again p n l) ∙ four_again b 16 are (omega arith) in
     let next = ap (to_le_bytes w32) (next_again p n l j.0) ∙ four_again b 20 are (omega arith) in
     let left = ap (to_le_bytes w64) (left_again p n l k.0) ∙ eight_again b 24 are (omega arith) in
-    let front : (phase_numbers (timer_phase_of (slice_index b 14) (slice_index b 15))).0 ∷ (phase_numbers (timer_phase_of (slice_index b 14) (slice_index b 15))).1 ∷ [] ≡ part b 14 2 =
+    let front : (phase_numbers (timer_phase_of (slice_index b 14) (slice_index b 15))).0 ∷ (phase_numbers
+    (timer_phase_of (slice_index b 14) (slice_index b 15))).1 ∷ [] ≡ part b 14 2 =
     cons (timer_again (slice_index b 14) (slice_index b 15) low) (cons (low_again (slice_index b 14) (slice_index b 15) low g.0) refl)
     ∙ part-listed b 14 2 (omega arith) in
     join (join (join front period ∙ part-append b 14 2 4) next ∙ part-append b 14 6 4) left ∙ part-append b 14 10 8
@@ -171,7 +173,8 @@ zeros n = replicate n 0
 replicated : (m n k : ℕ) → m + n ≡ k → zeros m ++ zeros n ≡ zeros k
 replicated m n k e = replicate-append-replicate m n 0 ∙ ap zeros e
 
-waiting_again : (b : List ℕ) (n : ℕ) → length b ≡ 64 → n ≤ 16 → are_zero (slice_range b (39 + n) 55) ≡ true → are_zero (slice_range b 55 64) ≡ true →
+waiting_again : (b : List ℕ) (n : ℕ) → length b ≡ 64 → n ≤ 16 → are_zero (slice_range b (39 + n) 55) ≡ true
+    → are_zero (slice_range b 55 64) ≡ true →
     waiting_bytes (slice_range b 39 (39 + n)) ≡ part b 39 25
 unfolding part
 waiting_again b n long few unused last =

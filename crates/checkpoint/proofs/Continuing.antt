@@ -30,8 +30,10 @@ WentOn m n old out c before now memory steps end fills =
 
 module _ {m : Setting} {n : ℕ} {old new : State} {out : Outward} {filling : Filling} {noting : Noting} {begins : Type 0} where
   went_to : KeptBefore → begins → (c : Option (List ℕ)) (pause : Pause) (before mid now : ℕ) (memory : List ℕ) (steps fills : ℕ)
-      → fills ≡ filling.filled → filling.pages ≤ filling.fills → filling.filled ≤ 128 * new.step → steps ≡ new.step → IfReached (Ok pause) (take (4096 * m.frames) memory ≡ with_patches m.image new.ram)
-      → SliceAs m n old new out filling noting begins (Ok pause) → Appends out.tells c (end_line steps (end_of pause)) → mid ≡ before → now ≡ mid
+      → fills ≡ filling.filled → filling.pages ≤ filling.fills → filling.filled ≤ 128 * new.step → steps ≡ new.step
+      → IfReached (Ok pause) (take (4096 * m.frames) memory ≡ with_patches m.image new.ram)
+      → SliceAs m n old new out filling noting begins (Ok pause) → Appends out.tells c (end_line steps (end_of pause))
+      → mid ≡ before → now ≡ mid
       → WentOn m n old out c before now memory steps (end_of pause) fills
   went_to law bare c pause before mid now memory steps fills fills_is were few steps_is has h put same more = (
     lines_of (trace_of h.reports) ++ end_line steps (end_of pause),
@@ -52,13 +54,16 @@ module _ {m : Setting} {n : ℕ} {old new : State} {out : Outward} {filling : Fi
   )
 
   -- all lines and the last one were put
-  pub went_on : KeptBefore → begins → (c : Option (List ℕ)) (pause : Pause) (before mid now : ℕ) (memory : List ℕ) (steps : ℕ) (end : End) (fills : ℕ)
-      → fills ≡ filling.filled → filling.pages ≤ filling.fills → filling.filled ≤ 128 * new.step → steps ≡ new.step → end ≡ end_of pause → IfReached (Ok pause) (take (4096 * m.frames) memory ≡ with_patches m.image new.ram)
+  pub went_on : KeptBefore → begins → (c : Option (List ℕ)) (pause : Pause) (before mid now : ℕ) (memory : List ℕ) (steps : ℕ)
+      (end : End) (fills : ℕ)
+      → fills ≡ filling.filled → filling.pages ≤ filling.fills → filling.filled ≤ 128 * new.step → steps ≡ new.step → end ≡ end_of pause
+      → IfReached (Ok pause) (take (4096 * m.frames) memory ≡ with_patches m.image new.ram)
       → SliceAs m n old new out filling noting begins (Ok pause) → Appends out.tells c (end_line steps end) → mid ≡ before → now ≡ mid
       → WentOn m n old out c before now memory steps end fills
   went_on law bare c pause before mid now memory steps end fills fills_is were few steps_is end_is has h put same more =
       subst (λ (e : End). WentOn m n old out c before now memory steps e fills) (sym end_is)
-      (went_to law bare c pause before mid now memory steps fills fills_is were few steps_is has h (subst (λ (e : End). Appends out.tells c (end_line steps e)) end_is put) same more)
+      (went_to law bare c pause before mid now memory steps fills fills_is were few steps_is has h
+      (subst (λ (e : End). Appends out.tells c (end_line steps e)) end_is put) same more)
 
   -- all lines and a front of the last one
   pub went_unput : (c : Option (List ℕ)) (pause : Pause) (before mid now : ℕ) (steps : ℕ) (end : End)
@@ -73,7 +78,10 @@ module _ {m : Setting} {n : ℕ} {old new : State} {out : Outward} {filling : Fi
       sets = h.sets;
       reports = h.reports;
       last = h.last;
-      run = record { steps = h.steps; ends = subst (λ (e : End). EndsIn m n h.last e) (sym end_is) (ends_by m n h.last new h.end pause h.ends) };
+      run = record {
+        steps = h.steps;
+        ends = subst (λ (e : End). EndsIn m n h.last e) (sym end_is) (ends_by m n h.last new h.end pause h.ends);
+      };
       count_is = steps_is ∙ count_by m n h.last new h.end pause h.ends;
       text_is = text_is h.reports steps end;
     },
@@ -98,7 +106,8 @@ module _ {m : Setting} {n : ℕ} {old new : State} {out : Outward} {filling : Fi
           count_is = refl;
           text_is = refl;
         },
-        front_of out.told out.told out.tells [] (lines_of (trace_of h.reports)) (lines_of (trace_of e.reports) ++ end_line e.last.step e.end) _ (appends_none out.told) h.text
+        front_of out.told out.told out.tells [] (lines_of (trace_of h.reports))
+            (lines_of (trace_of e.reports) ++ end_line e.last.step e.end) _ (appends_none out.told) h.text
             (text_join h.reports e.reports e.last.step e.end),
         rose,
       )

@@ -46,16 +46,19 @@ read_as s = Ok s
 abbrev some_place : ℕ → Option ℕ
 some_place n = Some n
 
-decided : (h : Head) (bytes : List ℕ) (s : State) → head_at (front bytes) ≡ h → first_bad (length bytes) (demands h) ≡ None → length bytes ≡ size h.frames →
+decided : (h : Head) (bytes : List ℕ) (s : State) → head_at (front bytes) ≡ h → first_bad (length bytes) (demands h) ≡ None
+    → length bytes ≡ size h.frames →
     state_by h (drop 256 bytes) ≡ s → checkpoint_in bytes ≡ Ok s
 unfolding checkpoint_in fault_of
 decided h bytes s read none whole is =
     let of_head : Head → Result State ℕ = λ x.
     unless (option_or (first_bad (length bytes) (demands x)) (misses (length bytes) (size x.frames))) (state_by x (drop 256 bytes)) in
     let well : option_or (first_bad (length bytes) (demands h)) (misses (length bytes) (size h.frames)) ≡ None =
-    neither (first_bad (length bytes) (demands h)) (misses (length bytes) (size h.frames)) none (no_miss (length bytes) (size h.frames) whole) in
+    neither (first_bad (length bytes) (demands h)) (misses (length bytes) (size h.frames)) none
+    (no_miss (length bytes) (size h.frames) whole) in
     ap of_head read
-    ∙ unless_none (option_or (first_bad (length bytes) (demands h)) (misses (length bytes) (size h.frames))) (state_by h (drop 256 bytes)) well
+    ∙ unless_none (option_or (first_bad (length bytes) (demands h)) (misses (length bytes) (size h.frames)))
+    (state_by h (drop 256 bytes)) well
     ∙ ap read_as is
 
 record Says (h : Head) (board : List ℕ) (step frames : ℕ) : Type 0 where
@@ -67,7 +70,8 @@ says : (cpu : Cpu) (board : List ℕ) (step frames : ℕ) → Says (head_of cpu 
 unfolding head_of
 says cpu board step frames = record { board_is = refl; step_is = refl; frames_is = refl }
 
-same_state : (s : State) (cpu : Cpu) (board : Board) (step : ℕ) (ram : List ℕ) → cpu ≡ s.cpu → board ≡ s.board → step ≡ s.step → ram ≡ s.ram →
+same_state : (s : State) (cpu : Cpu) (board : Board) (step : ℕ) (ram : List ℕ) → cpu ≡ s.cpu → board ≡ s.board
+    → step ≡ s.step → ram ≡ s.ram →
     (let made : State = record { cpu = cpu; board = board; step = step; ram = ram } in made) ≡ s
 same_state s cpu board step ram p q r t = λ i. record { cpu = p i; board = q i; step = r i; ram = t i }
 
@@ -81,30 +85,36 @@ read_back s form long board_fits board_back sized =
     let told = says s.cpu (saved s.board) s.step frames in
     let head_long = length-spelled h sized in
     let read : head_at (front bytes) ≡ h = ap head_at (front_is (spelled h) s.ram head_long) ∙ head_back h sized in
-    let groups = meets s.cpu (saved s.board) s.step frames form.fit long form.step (omega (arith, form.ram.0)) (omega (arith, form.ram.1)) board_fits in
+    let groups = meets s.cpu (saved s.board) s.step frames form.fit long form.step (omega (arith, form.ram.0))
+    (omega (arith, form.ram.1)) board_fits in
     let whole : length bytes ≡ size h.frames = omega (arith, length-append (spelled h) s.ram, form.ram.2, told.frames_is) in
     let state = same_state s (cpu_of h) (board_at h.board) h.step (drop 256 bytes) (cpu_back s.cpu (saved s.board) s.step frames long)
     (ap board_at told.board_is ∙ board_back) told.step_is (drop_at (spelled h) s.ram 256 head_long) in
     decided h bytes s read (none_from_groups (length bytes) h groups) whole state
 
-pub put_whole : (s : State) (h : Head) (board : List ℕ) (len : ℕ) (empty first all copy : List ℕ) → empty ≡ [] → first ≡ empty ++ spelled h →
-    h ≡ head_of s.cpu board s.step (len / 4096) → board ≡ saved s.board → len ≡ length s.ram → copy ≡ part s.ram 0 len → all ≡ first ++ copy →
+pub put_whole : (s : State) (h : Head) (board : List ℕ) (len : ℕ) (empty first all copy : List ℕ) → empty ≡ []
+    → first ≡ empty ++ spelled h →
+    h ≡ head_of s.cpu board s.step (len / 4096) → board ≡ saved s.board → len ≡ length s.ram → copy ≡ part s.ram 0 len
+    → all ≡ first ++ copy →
     all ≡ checkpoint_bytes s
 unfolding checkpoint_bytes part
 put_whole s h board len empty first all copy empty_is first_is h_is board_is len_is copy_is all_is =
     let head : h ≡ head_of s.cpu (saved s.board) s.step (length s.ram / 4096) =
-    h_is ∙ ap (λ (b : List ℕ). head_of s.cpu b s.step (len / 4096)) board_is ∙ ap (λ (n : ℕ). head_of s.cpu (saved s.board) s.step (n / 4096)) len_is in
+    h_is ∙ ap (λ (b : List ℕ). head_of s.cpu b s.step (len / 4096)) board_is
+    ∙ ap (λ (n : ℕ). head_of s.cpu (saved s.board) s.step (n / 4096)) len_is in
     let ram : copy ≡ s.ram = copy_is ∙ ap (λ (n : ℕ). take n s.ram) len_is ∙ take_all (length s.ram) s.ram (omega arith) in
     let front : first ≡ spelled (head_of s.cpu (saved s.board) s.step (length s.ram / 4096)) =
     first_is ∙ ap (λ (xs : List ℕ). xs ++ spelled h) empty_is ∙ ap spelled head in
     all_is ∙ ap (λ (xs : List ℕ). xs ++ copy) front
     ∙ ap (λ (xs : List ℕ). spelled (head_of s.cpu (saved s.board) s.step (length s.ram / 4096)) ++ xs) ram
 
-pub sized_so : (s : State) (h : Head) (board : List ℕ) (len : ℕ) → h ≡ head_of s.cpu board s.step (len / 4096) → board ≡ saved s.board → len ≡ length s.ram →
+pub sized_so : (s : State) (h : Head) (board : List ℕ) (len : ℕ) → h ≡ head_of s.cpu board s.step (len / 4096) → board ≡ saved s.board
+    → len ≡ length s.ram →
     IsSized h → IsSized (head_of s.cpu (saved s.board) s.step (length s.ram / 4096))
 sized_so s h board len h_is board_is len_is sized =
     subst IsSized
-    (h_is ∙ ap (λ (b : List ℕ). head_of s.cpu b s.step (len / 4096)) board_is ∙ ap (λ (n : ℕ). head_of s.cpu (saved s.board) s.step (n / 4096)) len_is)
+    (h_is ∙ ap (λ (b : List ℕ). head_of s.cpu b s.step (len / 4096)) board_is
+    ∙ ap (λ (n : ℕ). head_of s.cpu (saved s.board) s.step (n / 4096)) len_is)
     sized
 
 -- ---- what is read
@@ -179,7 +189,8 @@ board_restored bytes are none =
     let form = (read_well bytes are none).groups.board in rw form refl
 
 pub written_again : (bytes : List ℕ) → AreBytes bytes → fault_of (head_at (front bytes)) (length bytes) ≡ None →
-    (bytes ≡ checkpoint_bytes (state_by (head_at (front bytes)) (drop 256 bytes))) × IsInForm (state_by (head_at (front bytes)) (drop 256 bytes))
+    (bytes ≡ checkpoint_bytes (state_by (head_at (front bytes)) (drop 256 bytes)))
+    × IsInForm (state_by (head_at (front bytes)) (drop 256 bytes))
 unfolding checkpoint_bytes
 written_again bytes are none =
     let h = head_at (front bytes) in
@@ -204,7 +215,8 @@ written_again bytes are none =
 zeros_left : (there n left : ℕ) (zeros : List ℕ) → zeros ≡ drop there (replicate n 0) → n - there ≡ left → zeros ≡ replicate left 0
 zeros_left there n left zeros is lacking = is ∙ drop-replicate there n 0 ∙ ap (λ (k : ℕ). replicate k 0) lacking
 
-pub front_put : (bytes copy zeros : List ℕ) (there : ℕ) → there ≡ min (length bytes) 256 → copy ≡ take there bytes → zeros ≡ drop there (replicate 256 0) →
+pub front_put : (bytes copy zeros : List ℕ) (there : ℕ) → there ≡ min (length bytes) 256 → copy ≡ take there bytes
+    → zeros ≡ drop there (replicate 256 0) →
     copy ++ zeros ≡ front bytes
 front_put bytes copy zeros there there_is copy_is zeros_is =
     let small : there ≡ min 256 (length bytes) = omega arith in
@@ -223,13 +235,15 @@ pub if_none : {P : Type 0} (r : Option ℕ) → P → IfNone r P
 if_none None p = p
 if_none (Some at) p = tt
 
-told : (bytes fr : List ℕ) (h : Head) (fault : Option ℕ) → fr ≡ front bytes → h ≡ head_at fr → fault ≡ fault_of h (length bytes) → fault ≡ None →
+told : (bytes fr : List ℕ) (h : Head) (fault : Option ℕ) → fr ≡ front bytes → h ≡ head_at fr
+    → fault ≡ fault_of h (length bytes) → fault ≡ None →
     (h ≡ head_at (front bytes)) × (fault_of (head_at (front bytes)) (length bytes) ≡ None)
 told bytes fr h fault fr_is h_is fault_is none =
     let head : h ≡ head_at (front bytes) = h_is ∙ ap head_at fr_is in
     (head, ap (λ (x : Head). fault_of x (length bytes)) (sym head) ∙ sym fault_is ∙ none)
 
-pub never_lost : (bytes fr : List ℕ) (h : Head) (fault : Option ℕ) (board : Option Board) → AreBytes bytes → fr ≡ front bytes → h ≡ head_at fr →
+pub never_lost : (bytes fr : List ℕ) (h : Head) (fault : Option ℕ) (board : Option Board) → AreBytes bytes
+    → fr ≡ front bytes → h ≡ head_at fr →
     fault ≡ fault_of h (length bytes) → fault ≡ None → board ≡ restored h.board → board ≡ None → ⊥
 never_lost bytes fr h fault board are fr_is h_is fault_is none board_is lost =
     let t = told bytes fr h fault fr_is h_is fault_is none in
@@ -237,14 +251,18 @@ never_lost bytes fr h fault board are fr_is h_is fault_is none board_is lost =
     board_is ∙ ap (λ (x : Head). restored x.board) t.0 ∙ board_restored bytes are t.1 in
     absurd (cc)
 
-pub read_so : (bytes fr : List ℕ) (h : Head) (fault : Option ℕ) (restored_is : Option Board) (cpu : Cpu) (board : Board) (ram : List ℕ) → AreBytes bytes →
-    fr ≡ front bytes → h ≡ head_at fr → fault ≡ fault_of h (length bytes) → fault ≡ None → restored_is ≡ restored h.board → restored_is ≡ Some board →
+pub read_so : (bytes fr : List ℕ) (h : Head) (fault : Option ℕ) (restored_is : Option Board) (cpu : Cpu) (board : Board)
+    (ram : List ℕ) → AreBytes bytes →
+    fr ≡ front bytes → h ≡ head_at fr → fault ≡ fault_of h (length bytes) → fault ≡ None → restored_is ≡ restored h.board
+    → restored_is ≡ Some board →
     cpu ≡ cpu_of h → ram ≡ drop 256 bytes →
-    (bytes ≡ checkpoint_bytes (record { cpu = cpu; board = board; step = h.step; ram = ram })) × IsInForm (record { cpu = cpu; board = board; step = h.step; ram = ram })
+    (bytes ≡ checkpoint_bytes (record { cpu = cpu; board = board; step = h.step; ram = ram }))
+    × IsInForm (record { cpu = cpu; board = board; step = h.step; ram = ram })
 read_so bytes fr h fault restored_is cpu board ram are fr_is h_is fault_is none back_is some cpu_is ram_is =
     let t = told bytes fr h fault fr_is h_is fault_is none in
     let b : board ≡ board_at h.board =
-    same_Some board (board_at h.board) (sym some ∙ back_is ∙ ap (λ (x : Head). restored x.board) t.0 ∙ board_restored bytes are t.1 ∙ ap (λ (x : Head). Some (board_at x.board)) (sym t.0)) in
+    same_Some board (board_at h.board) (sym some ∙ back_is ∙ ap (λ (x : Head). restored x.board) t.0 ∙ board_restored bytes are t.1
+    ∙ ap (λ (x : Head). Some (board_at x.board)) (sym t.0)) in
     let made : State = record { cpu = cpu; board = board; step = h.step; ram = ram } in
     let same : state_by (head_at (front bytes)) (drop 256 bytes) ≡ made =
     ap (λ (x : Head). state_by x (drop 256 bytes)) (sym t.0)

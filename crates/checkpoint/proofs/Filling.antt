@@ -12,7 +12,8 @@ use Rattle.wedge_core.specs.Slices.{Filling, Noting, Outward, PausesAs, SliceAs}
 use Rattle.wedge_core.proofs.WholeRuns.{count_by}
 
 -- a run that paused may go on with what it left
-allowed_by : (m : Setting) (n : ℕ) (last new : State) (end : Set) (pause : Pause) → PausesAs m n last new end (Ok pause) → Loosened m last end
+allowed_by : (m : Setting) (n : ℕ) (last new : State) (end : Set) (pause : Pause) → PausesAs m n last new end (Ok pause)
+    → Loosened m last end
 allowed_by m n last new end Reached h = h.2
 allowed_by m n last new end (Stopped stop) h = h.2
 
@@ -23,7 +24,8 @@ module _ {m : Setting} {n : ℕ} {old new : State} {out : Outward} {filling : Fi
   filled_in pause were few h = record {
     end = h.end;
     allowed = allowed_by m n h.last new h.end pause h.ends;
-    enough = All-weaker (λ (set : Set). CountsFills filling.pages (len set) filling.fills filling.filled) (λ (set : Set). len set ≤ filling.filled)
+    enough = All-weaker (λ (set : Set). CountsFills filling.pages (len set) filling.fills filling.filled)
+        (λ (set : Set). len set ≤ filling.filled)
         (λ set f. let e = f.enough in omega (arith, e, were)) (h.sets ++ h.end ∷ []) h.each_filled;
     few = (let same = count_by m n h.last new h.end pause h.ends in omega (arith, few, same));
   }

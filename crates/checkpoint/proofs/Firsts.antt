@@ -28,7 +28,8 @@ split : (demands : List Demand) (i : ℕ) (d : Demand) → i < length demands �
 split demands i d h = drop_more demands i d h
 
 pub first_bad-more : (there : ℕ) (demands : List Demand) (i : ℕ) (d : Demand) (first : Option ℕ) → i < length demands →
-    earlier (earlier first (bad_in there (get_or demands i d))) (first_bad there (drop (i + 1) demands)) ≡ earlier first (first_bad there (drop i demands))
+    earlier (earlier first (bad_in there (get_or demands i d))) (first_bad there (drop (i + 1) demands)) ≡ earlier first
+    (first_bad there (drop i demands))
 unfolding first_bad
 first_bad-more there demands i d first h =
     earlier_assoc first (bad_in there (get_or demands i d)) (first_bad there (drop (i + 1) demands))
@@ -44,7 +45,8 @@ first_bad-step there demands i d first now next h now_is next_is =
 pub first_bad-end : (there : ℕ) (demands : List Demand) (i : ℕ) (first : Option ℕ) → length demands ≤ i →
     earlier first (first_bad there (drop i demands)) ≡ first
 unfolding first_bad
-first_bad-end there demands i first h = ap (λ (xs : List Demand). earlier first (first_bad there xs)) (drop_all i demands h) ∙ earlier-none first
+first_bad-end there demands i first h =
+    ap (λ (xs : List Demand). earlier first (first_bad there xs)) (drop_all i demands h) ∙ earlier-none first
 
 -- bytes without a name
 
@@ -64,11 +66,13 @@ later_than there (b ∷ bytes) n at h =
 
 zeros_split : (at there i : ℕ) (bytes : List ℕ) → i < length bytes →
     first_bad there (zero_demands (at + i) (drop i bytes))
-    ≡ earlier (bad_in there (of_field (at + i) 1 (get_or bytes i 0 == 0))) (first_bad there (zero_demands (at + (i + 1)) (drop (i + 1) bytes)))
+    ≡ earlier (bad_in there (of_field (at + i) 1 (get_or bytes i 0 == 0)))
+    (first_bad there (zero_demands (at + (i + 1)) (drop (i + 1) bytes)))
 unfolding first_bad
 zeros_split at there i bytes h =
     ap (λ (xs : List ℕ). first_bad there (zero_demands (at + i) xs)) (drop_more bytes i 0 h)
-    ∙ ap (λ (k : ℕ). earlier (bad_in there (of_field (at + i) 1 (get_or bytes i 0 == 0))) (first_bad there (zero_demands k (drop (i + 1) bytes))))
+    ∙ ap (λ (k : ℕ). earlier (bad_in there (of_field (at + i) 1 (get_or bytes i 0 == 0)))
+    (first_bad there (zero_demands k (drop (i + 1) bytes))))
     (omega arith)
 
 pub set_here : (at there i : ℕ) (bytes : List ℕ) → i < length bytes → get_or bytes i 0 ≢ 0 → at + i < there →
@@ -84,7 +88,8 @@ set_here at there i bytes h set near =
 pub zero_here : (at there i : ℕ) (bytes : List ℕ) → i < length bytes → get_or bytes i 0 ≡ 0 →
     first_bad there (zero_demands (at + i) (drop i bytes)) ≡ first_bad there (zero_demands (at + (i + 1)) (drop (i + 1) bytes))
 zero_here at there i bytes h zero =
-    let isnt : bad_in there (of_field (at + i) 1 (get_or bytes i 0 == 0)) ≡ None = rw zero (and_false (nat_le (at + i + 1) there) (at + i)) in
+    let isnt : bad_in there (of_field (at + i) 1 (get_or bytes i 0 == 0)) ≡ None =
+    rw zero (and_false (nat_le (at + i + 1) there) (at + i)) in
     zeros_split at there i bytes h
     ∙ ap (λ (a : Option ℕ). earlier a (first_bad there (zero_demands (at + (i + 1)) (drop (i + 1) bytes)))) isnt
   where
@@ -112,7 +117,8 @@ joined there xs ys x y r x_is y_is r_is =
     r_is ∙ ap (λ (a : Option ℕ). earlier a y) x_is ∙ ap (earlier (first_bad there xs)) y_is ∙ sym (first_bad-append there xs ys)
 
 pub five : {T : Type 0} (f : T → Demand) (there : ℕ) (a b c d e : List T) (u v w x y p q r s : Option ℕ) →
-    u ≡ first_bad there (map f a) → v ≡ first_bad there (map f b) → w ≡ first_bad there (map f c) → x ≡ first_bad there (map f d) → y ≡ first_bad there (map f e) →
+    u ≡ first_bad there (map f a) → v ≡ first_bad there (map f b) → w ≡ first_bad there (map f c) → x ≡ first_bad there (map f d)
+    → y ≡ first_bad there (map f e) →
     p ≡ earlier u v → q ≡ earlier p w → r ≡ earlier q x → s ≡ earlier r y → s ≡ first_bad there (map f (a ++ b ++ c ++ d ++ e))
 five f there a b c d e u v w x y p q r s u_is v_is w_is x_is y_is p_is q_is r_is s_is =
     let two = joined there (map f a) (map f b) u v p u_is v_is p_is in
@@ -123,8 +129,10 @@ five f there a b c d e u v w x y p q r s u_is v_is w_is x_is y_is p_is q_is r_is
     all ∙ ap (first_bad there) (sym same)
 
 pub seven : (there : ℕ) (a b c d e f g : List Demand) (u v w x y z t p q r s m n : Option ℕ) →
-    u ≡ first_bad there a → v ≡ first_bad there b → w ≡ first_bad there c → x ≡ first_bad there d → y ≡ first_bad there e → z ≡ first_bad there f → t ≡ first_bad there g →
-    p ≡ earlier u v → q ≡ earlier p w → r ≡ earlier q x → s ≡ earlier r y → m ≡ earlier s z → n ≡ earlier m t → n ≡ first_bad there (a ++ b ++ c ++ d ++ e ++ f ++ g)
+    u ≡ first_bad there a → v ≡ first_bad there b → w ≡ first_bad there c → x ≡ first_bad there d → y ≡ first_bad there e
+    → z ≡ first_bad there f → t ≡ first_bad there g →
+    p ≡ earlier u v → q ≡ earlier p w → r ≡ earlier q x → s ≡ earlier r y → m ≡ earlier s z → n ≡ earlier m t
+    → n ≡ first_bad there (a ++ b ++ c ++ d ++ e ++ f ++ g)
 seven there a b c d e f g u v w x y z t p q r s m n u_is v_is w_is x_is y_is z_is t_is p_is q_is r_is s_is m_is n_is =
     let two = joined there a b u v p u_is v_is p_is in
     let three = joined there (a ++ b) c p w q two w_is q_is in

@@ -38,7 +38,8 @@ guest_form image script g pool memory h fit step =
     record { step = step; ram = (omega (arith, long, low), omega (arith, long, high), omega (arith, long)); fit = fit }
 
 -- A guest that is held over so many frames is between two steps over its own.
-pub between : (image : Image) (count : ℕ) (c : Scene Roots) → IsHeldIn of_roots (ground image count) c → IsReadyIn of_roots (ground image count) c
+pub between : (image : Image) (count : ℕ) (c : Scene Roots) → IsHeldIn of_roots (ground image count) c
+    → IsReadyIn of_roots (ground image count) c
     → 16 ≤ free c + c.guest.held → IsBetween of_roots image c
 between image count c held ready enough = record {
   held = subst (λ (k : ℕ). IsHeldIn of_roots (ground image k) c) (sym held.frames_are) held;
@@ -47,5 +48,6 @@ between image count c held ready enough = record {
 }
 
 -- So is one that goes on from a state.
-pub seated_between : (image : Image) (count : ℕ) (first : State) (c : Scene Roots) → GoesOnFrom image count first c → IsBetween of_roots image c
+pub seated_between : (image : Image) (count : ℕ) (first : State) (c : Scene Roots) → GoesOnFrom image count first c
+    → IsBetween of_roots image c
 seated_between image count first c h = let all = h.free in between image count c h.held h.ready (omega (arith, all))

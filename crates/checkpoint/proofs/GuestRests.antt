@@ -37,12 +37,19 @@ module _ {m : Setting} {old new : State} {out : Outward} {filling : Filling} {no
 module _ {m : Setting} {n : ℕ} {old new : State} {out : Outward} {filling : Filling} {noting : Noting} {begins : Type 0} where
   pub guest_rests : (before now : ℕ) (pause : Pause) → pause ≡ Reached → SliceAs m n old new out filling noting begins (Ok pause)
       → now ≡ before → IsInForm (kept_of new) → length new.ram ≡ 4096 * m.frames
-      → (last : State) × RestsWith m n old (host_counts m out.before out.after) out.told out.tells before now last × (kept_of new ≡ kept_of last)
+      → (last : State) × RestsWith m n old (host_counts m out.before out.after) out.told out.tells before now last
+      × (kept_of new ≡ kept_of last)
   guest_rests before now Reached e h same form size = (
     h.last,
     record {
       text = lines_of (trace_of h.reports);
-      rests = record { sets = h.sets; reports = h.reports; run = record { steps = h.steps; ends = h.ends.0 }; text_is = refl; counted = h.counts };
+      rests = record {
+        sets = h.sets;
+        reports = h.reports;
+        run = record { steps = h.steps; ends = h.ends.0 };
+        text_is = refl;
+        counted = h.counts;
+      };
       form = subst IsInForm (ap kept_of h.ends.1) form;
       size = ap (λ (b : State). length b.ram) (sym h.ends.1) ∙ size;
       put = h.text;
@@ -70,7 +77,8 @@ module _ {m : Setting} {n : ℕ} {old new : State} {out : Outward} {filling : Fi
           sets = h.sets;
           reports = h.reports;
           run = stopped_run stop h;
-          text_is = ap (λ (k : ℕ). lines_of (trace_of h.reports) ++ end_line k (ends.Stopped stop)) same ∙ text_is h.reports h.last.step (ends.Stopped stop);
+          text_is = ap (λ (k : ℕ). lines_of (trace_of h.reports) ++ end_line k (ends.Stopped stop)) same
+              ∙ text_is h.reports h.last.step (ends.Stopped stop);
           counted = h.counts;
         },
         same,

@@ -41,4 +41,5 @@ least_with (Some n) xs o h = least_more n xs o h
 pub first_bad_least : FirstBadIsLeast
 unfolding first_bad
 first_bad_least there [] = refl
-first_bad_least there (d ∷ demands) = least_with (bad_in there d) (bad_places there demands) (first_bad there demands) (first_bad_least there demands)
+first_bad_least there (d ∷ demands) =
+    least_with (bad_in there d) (bad_places there demands) (first_bad there demands) (first_bad_least there demands)

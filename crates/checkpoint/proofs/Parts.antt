@@ -61,7 +61,8 @@ front_of m a n front rest is =
     ∙ sym (part-part m a (length front + n) 0 (length front) (omega arith))
     ∙ ap (take (length front)) is ∙ take_at front rest (length front) refl
 
-rest_of : (m : List ℕ) (a n : ℕ) (front rest : List ℕ) → length rest ≡ n → part m a (length front + n) ≡ front ++ rest → part m (a + length front) n ≡ rest
+rest_of : (m : List ℕ) (a n : ℕ) (front rest : List ℕ) → length rest ≡ n → part m a (length front + n) ≡ front ++ rest
+    → part m (a + length front) n ≡ rest
 unfolding part
 rest_of m a n front rest long is =
     sym (part-part m a (length front + n) (length front) n (omega arith))
@@ -72,7 +73,8 @@ pub length-fours : (words : List ℕ) → length (flat_map four words) ≡ 4 * l
 length-fours [] = refl
 length-fours (w ∷ words) = omega (arith, length-append (four w) (flat_map four words), length-fours words)
 
-pub words_there : (m : List ℕ) (a n : ℕ) (words : List ℕ) → AreBelow (2 ^ 32) words → length words ≡ n → part m a (4 * n) ≡ flat_map four words →
+pub words_there : (m : List ℕ) (a n : ℕ) (words : List ℕ) → AreBelow (2 ^ 32) words → length words ≡ n
+    → part m a (4 * n) ≡ flat_map four words →
     words_at m a n ≡ words
 words_there m a zero [] small long is = refl
 words_there m a (suc n) [] small long is = absurd (omega arith)
@@ -102,7 +104,8 @@ segment_there m a s small is =
     let level : byte m (a + 3) ≡ s.level = byte_there m a 4 3 (segment_bytes s) is (omega arith) in
     λ i. record { selector = selector i; null = null i; level = level i }
 
-pub segments_there : (m : List ℕ) (a n : ℕ) (segments : List Segment) → AreSelectors segments → length segments ≡ n → part m a (4 * n) ≡ flat_map segment_bytes segments →
+pub segments_there : (m : List ℕ) (a n : ℕ) (segments : List Segment) → AreSelectors segments → length segments ≡ n
+    → part m a (4 * n) ≡ flat_map segment_bytes segments →
     segments_at m a n ≡ segments
 segments_there m a zero [] small long is = refl
 segments_there m a (suc n) [] small long is = absurd (omega arith)
@@ -169,7 +172,8 @@ segment_again m a are room =
     ∙ ap (λ (xs : List ℕ). xs ++ part m (a + 2) 2) (half_again m a are (omega arith))
     ∙ part-append m a 2 2
 
-pub segments_again : (m : List ℕ) (a n : ℕ) → AreBytes m → a + 4 * n ≤ length m → flat_map segment_bytes (segments_at m a n) ≡ part m a (4 * n)
+pub segments_again : (m : List ℕ) (a n : ℕ) → AreBytes m → a + 4 * n ≤ length m
+    → flat_map segment_bytes (segments_at m a n) ≡ part m a (4 * n)
 unfolding part
 segments_again m a zero are room = refl
 segments_again m a (suc n) are room =
@@ -195,6 +199,8 @@ put_more f xs k d initial old new bytes lt so_far put is =
     put ∙ ap (λ (l : List ℕ). l ++ bytes) so_far ∙ append_assoc initial (flat_map f (take k xs)) bytes
     ∙ ap (λ (l : List ℕ). initial ++ l) last
 
-pub front_put : (old m f s r a b c d : List ℕ) → a ≡ old ++ m → b ≡ a ++ (f ++ []) → c ≡ b ++ s → d ≡ c ++ r → d ≡ old ++ (m ++ (f ++ (s ++ (r ++ []))))
+pub front_put : (old m f s r a b c d : List ℕ) → a ≡ old ++ m → b ≡ a ++ (f ++ []) → c ≡ b ++ s → d ≡ c ++ r → d ≡ old
+    ++ (m ++ (f ++ (s ++ (r ++ []))))
 front_put old m f s r a b c d a_is b_is c_is d_is =
-    d_is ∙ ap (λ (x : List ℕ). x ++ r) (c_is ∙ ap (λ (x : List ℕ). x ++ s) (b_is ∙ ap (λ (x : List ℕ). x ++ (f ++ [])) a_is)) ∙ simp (append_assoc, append-nil)
+    d_is ∙ ap (λ (x : List ℕ). x ++ r) (c_is ∙ ap (λ (x : List ℕ). x ++ s) (b_is ∙ ap (λ (x : List ℕ). x ++ (f ++ [])) a_is))
+    ∙ simp (append_assoc, append-nil)

@@ -44,7 +44,8 @@ hidden_back s = ap (λ (b : Bool). let made : Hidden = record { sel = s.sel; nul
 pub cpu_back : (cpu : Cpu) (board : List ℕ) (step frames : ℕ) → length cpu.seg ≡ 4 → cpu_of (head_of cpu board step frames) ≡ cpu
 unfolding cpu_of head_of
 cpu_back cpu board step frames long =
-    let seg : hidden_from (segment_from (seg_of cpu 0)) ∷ hidden_from (segment_from (seg_of cpu 1)) ∷ hidden_from (segment_from (seg_of cpu 2)) ∷ hidden_from (segment_from (seg_of cpu 3)) ∷ [] ≡ cpu.seg =
+    let seg : hidden_from (segment_from (seg_of cpu 0)) ∷ hidden_from (segment_from (seg_of cpu 1)) ∷ hidden_from
+    (segment_from (seg_of cpu 2)) ∷ hidden_from (segment_from (seg_of cpu 3)) ∷ [] ≡ cpu.seg =
     four_same (hidden_back (seg_of cpu 0)) (hidden_back (seg_of cpu 1)) (hidden_back (seg_of cpu 2)) (hidden_back (seg_of cpu 3))
     ∙ four_of cpu.seg (record { sel = 0; null = false; dpl = 0 }) long in
     let loaded = worth_back cpu.task.loaded in
@@ -75,22 +76,27 @@ control_4_test : (n : ℕ) → (n ≡ 0) ⊎ (n ≡ 0x10) → is_control_4 n ≡
 control_4_test n (inl e) = rw e refl
 control_4_test n (inr e) = rw e refl
 
-pub meets : (cpu : Cpu) (board : List ℕ) (step frames : ℕ) → Fit cpu → length cpu.seg ≡ 4 → step ≤ 2 ^ 40 → 2048 ≤ frames → frames ≤ 16384 → board_form board ≡ true →
+pub meets : (cpu : Cpu) (board : List ℕ) (step frames : ℕ) → Fit cpu → length cpu.seg ≡ 4 → step ≤ 2 ^ 40 → 2048 ≤ frames → frames ≤ 16384
+    → board_form board ≡ true →
     Groups (head_of cpu board step frames)
 unfolding head_of
 meets cpu board step frames fit long few low high form =
-    let seg : (k : ℕ) → k < 4 → IsSegment (seg_of cpu k) = λ k h. fit.segments k (record { sel = 0; null = false; dpl = 0 }) (omega arith) in
+    let seg : (k : ℕ) → k < 4 → IsSegment (seg_of cpu k) =
+    λ k h. fit.segments k (record { sel = 0; null = false; dpl = 0 }) (omega arith) in
     let s0 = seg 0 (omega arith) in
     let s1 = seg 1 (omega arith) in
     let s2 = seg 2 (omega arith) in
     let s3 = seg 3 (omega arith) in
     record {
       magic = refl;
-      counts = and_from (is_frame_count frames) _ (and_from (nat_le 2048 frames) (nat_le frames 16384) (le-leb 2048 frames low) (le-leb frames 16384 high))
+      counts = and_from (is_frame_count frames) _
+          (and_from (nat_le 2048 frames) (nat_le frames 16384) (le-leb 2048 frames low) (le-leb frames 16384 high))
           (and_from (nat_le step (2 ^ 40)) true (le-leb step (2 ^ 40) few) refl);
       processor =
           and_from (are_flags cpu.regs.flags.bits) _ (flags_test cpu.regs.flags.bits fit.flags)
-          (and_from (is_control_0 cpu.cr0) _ (and_from (bit_and cpu.cr0 0x80000011 == 0x80000011) (bit_and cpu.cr0 0x7FFAFFC0 == 0) (eq-eqb _ _ fit.controls.on) (eq-eqb _ _ fit.controls.others))
+          (and_from (is_control_0 cpu.cr0) _
+          (and_from (bit_and cpu.cr0 0x80000011 == 0x80000011) (bit_and cpu.cr0 0x7FFAFFC0 == 0) (eq-eqb _ _ fit.controls.on)
+          (eq-eqb _ _ fit.controls.others))
           (and_from (bit_and cpu.cr3 0xFE7 == 0) _ (eq-eqb _ _ fit.controls.directory)
           (and_from (is_control_4 cpu.cr4) _ (control_4_test cpu.cr4 fit.controls.extensions)
           (and_from (nat_le (worth cpu.task.loaded) 1) _ (worth_small cpu.task.loaded)
@@ -98,12 +104,18 @@ meets cpu board step frames fit long few low high form =
           (and_from (is_halt (worth cpu.halted) cpu.cpl) _ (halt_test cpu.halted cpu.cpl fit.halted)
           (and_from (nat_le (worth cpu.held) 1) true (worth_small cpu.held) refl)))))));
       segments =
-          and_from (is_null (segment_from (seg_of cpu 0))) _ (null_test (seg_of cpu 0) s0) (and_from (is_level (seg_of cpu 0).dpl) _ (level_test _ s0.level)
-          (and_from (is_null (segment_from (seg_of cpu 1))) _ (null_test (seg_of cpu 1) s1) (and_from (is_level (seg_of cpu 1).dpl) _ (level_test _ s1.level)
-          (and_from (is_null (segment_from (seg_of cpu 2))) _ (null_test (seg_of cpu 2) s2) (and_from (is_level (seg_of cpu 2).dpl) _ (level_test _ s2.level)
-          (and_from (is_null (segment_from (seg_of cpu 3))) _ (null_test (seg_of cpu 3) s3) (and_from (is_level (seg_of cpu 3).dpl) _ (level_test _ s3.level)
-          (and_from (worth (seg_of cpu 1).null == 0) _ (there_test (seg_of cpu 1) fit.code.there) (and_from ((seg_of cpu 1).dpl == cpu.cpl) _ (eq-eqb _ _ fit.code.level)
-          (and_from (worth (seg_of cpu 2).null == 0) _ (there_test (seg_of cpu 2) fit.stack.there) (and_from ((seg_of cpu 2).dpl == cpu.cpl) true (eq-eqb _ _ fit.stack.level) refl)))))))))));
+          and_from (is_null (segment_from (seg_of cpu 0))) _ (null_test (seg_of cpu 0) s0)
+          (and_from (is_level (seg_of cpu 0).dpl) _ (level_test _ s0.level)
+          (and_from (is_null (segment_from (seg_of cpu 1))) _ (null_test (seg_of cpu 1) s1)
+          (and_from (is_level (seg_of cpu 1).dpl) _ (level_test _ s1.level)
+          (and_from (is_null (segment_from (seg_of cpu 2))) _ (null_test (seg_of cpu 2) s2)
+          (and_from (is_level (seg_of cpu 2).dpl) _ (level_test _ s2.level)
+          (and_from (is_null (segment_from (seg_of cpu 3))) _ (null_test (seg_of cpu 3) s3)
+          (and_from (is_level (seg_of cpu 3).dpl) _ (level_test _ s3.level)
+          (and_from (worth (seg_of cpu 1).null == 0) _ (there_test (seg_of cpu 1) fit.code.there)
+          (and_from ((seg_of cpu 1).dpl == cpu.cpl) _ (eq-eqb _ _ fit.code.level)
+          (and_from (worth (seg_of cpu 2).null == 0) _ (there_test (seg_of cpu 2) fit.stack.there)
+          (and_from ((seg_of cpu 2).dpl == cpu.cpl) true (eq-eqb _ _ fit.stack.level) refl)))))))))));
       unnamed = refl;
       board = form;
       rest = refl;
@@ -229,7 +241,8 @@ fits_so h groups =
     let s = to_segments h groups.segments in
     record {
       level = p.level;
-      segments = four_all IsSegment (hidden_from (segment_of h 0)) (hidden_from (segment_of h 1)) (hidden_from (segment_of h 2)) (hidden_from (segment_of h 3)) s.s0 s.s1 s.s2 s.s3;
+      segments = four_all IsSegment (hidden_from (segment_of h 0)) (hidden_from (segment_of h 1)) (hidden_from (segment_of h 2))
+          (hidden_from (segment_of h 3)) s.s0 s.s1 s.s2 s.s3;
       code = record { there = ap (λ (n : ℕ). n == 1) s.code; level = s.code_level };
       stack = record { there = ap (λ (n : ℕ). n == 1) s.stack; level = s.stack_level };
       flags = p.flags;
@@ -238,7 +251,8 @@ fits_so h groups =
     }
 
 segment_again : (s : Segment) → s.null ≤ 1 → segment_from (hidden_from s) ≡ s
-segment_again s low = ap (λ (n : ℕ). let made : Segment = record { selector = s.selector; null = n; level = s.level } in made) (worth_again s.null low)
+segment_again s low =
+    ap (λ (n : ℕ). let made : Segment = record { selector = s.selector; null = n; level = s.level } in made) (worth_again s.null low)
 
 byte_eq : (n m : ℕ) → (n == m) ≡ true → n ≡ m
 byte_eq n m e = eqb-true n m e
@@ -256,8 +270,10 @@ unfolding head_of cpu_of
 head_again h magic_long long groups =
     let p = to_processor h groups.processor in
     let s = to_segments h groups.segments in
-    let segments : segment_from (hidden_from (segment_of h 0)) ∷ segment_from (hidden_from (segment_of h 1)) ∷ segment_from (hidden_from (segment_of h 2)) ∷ segment_from (hidden_from (segment_of h 3)) ∷ [] ≡ h.segments =
-    four_same (segment_again (segment_of h 0) s.low0) (segment_again (segment_of h 1) s.low1) (segment_again (segment_of h 2) s.low2) (segment_again (segment_of h 3) s.low3)
+    let segments : segment_from (hidden_from (segment_of h 0)) ∷ segment_from (hidden_from (segment_of h 1)) ∷ segment_from
+    (hidden_from (segment_of h 2)) ∷ segment_from (hidden_from (segment_of h 3)) ∷ [] ≡ h.segments =
+    four_same (segment_again (segment_of h 0) s.low0) (segment_again (segment_of h 1) s.low1) (segment_again (segment_of h 2) s.low2)
+    (segment_again (segment_of h 3) s.low3)
     ∙ four_of h.segments (record { selector = 0; null = 0; level = 0 }) long in
     let magic = magic_is h.magic magic_long groups.magic in
     let loaded = worth_again h.task_loaded p.loaded in
@@ -265,4 +281,12 @@ head_again h magic_long long groups =
     let held = worth_again h.held p.held in
     let unnamed = sym groups.unnamed in
     let rest = sym groups.rest in
-    λ i. record h { magic = magic i; task_loaded = loaded i; segments = segments i; halted = halted i; held = held i; unnamed = unnamed i; rest = rest i }
+    λ i. record h {
+      magic = magic i;
+      task_loaded = loaded i;
+      segments = segments i;
+      halted = halted i;
+      held = held i;
+      unnamed = unnamed i;
+      rest = rest i;
+    }

@@ -50,7 +50,8 @@ fails_in_lines m n old mid sets reports a b steps within front =
     )
 
 -- the sink failed at the last line
-pub fails_at_end : (m : Setting) (n : ℕ) (old last : State) (sets : List Set) (reports : List Report) (stop : stops.Stop) (steps : ℕ) (a b c : Option (List ℕ))
+pub fails_at_end : (m : Setting) (n : ℕ) (old last : State) (sets : List Set) (reports : List Report) (stop : stops.Stop) (steps : ℕ)
+    (a b c : Option (List ℕ))
     → Run m n old sets reports last (ends.Stopped stop) → steps ≡ last.step
     → Appends a b (lines_of (trace_of reports)) → AppendsFront b c (end_line steps (ends.Stopped stop)) → FailsIn m n old a c
 fails_at_end m n old last sets reports stop steps a b c run is put front = (
@@ -65,7 +66,8 @@ fails_at_end m n old last sets reports stop steps a b c run is put front = (
 )
 
 -- the same of a run from the start
-pub from_start : (m : Setting) (n : ℕ) (counts : List Report → Type 0) (old new : Option (List ℕ)) (before now : ℕ) (result : Result Rested RunFault)
+pub from_start : (m : Setting) (n : ℕ) (counts : List Report → Type 0) (old new : Option (List ℕ)) (before now : ℕ)
+    (result : Result Rested RunFault)
     → need m.image ≤ m.frames → RestsAs m n (boot m) counts old new before now result → RestsFromStart m n counts old new before now result
 from_start m n counts old new before now (Ok (At state)) fits h = (fits, h)
 from_start m n counts old new before now (Ok (Stopped ended)) fits h = (fits, h)

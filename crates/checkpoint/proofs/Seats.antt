@@ -21,7 +21,8 @@ seat old mid new ram copy frames len long len_is copy_is mid_is same =
     ∙ take_at copy (drop (0 + length copy) old) (4096 * frames) size
     ∙ whole
 
-pub first_frames : (zeros memory copy new : List ℕ) (frames : ℕ) → length zeros ≡ frames * 4096 → 4096 * frames ≤ length memory → copy ≡ part memory 0 (4096 * frames) →
+pub first_frames : (zeros memory copy new : List ℕ) (frames : ℕ) → length zeros ≡ frames * 4096 → 4096 * frames ≤ length memory
+    → copy ≡ part memory 0 (4096 * frames) →
     new ≡ with_part zeros 0 copy → new ≡ take (4096 * frames) memory
 unfolding part
 first_frames zeros memory copy new frames long room copy_is new_is =
@@ -38,7 +39,8 @@ pub text_fits : (image : Image) (ram : List ℕ) (len : ℕ) → 2048 * 4096 ≤
     part ram 0x100000 (length image.text) ≡ image.text → 0x100 + text_pages image ≤ len / 4096
 text_fits image ram len large whole len_is stands = let room = text_room ram image.text large stands in omega (arith, room, whole, len_is)
 
-pub text_seated : (memory ram text : List ℕ) (frames : ℕ) → take (4096 * frames) memory ≡ ram → 2048 * 4096 ≤ length ram → length ram ≡ 4096 * frames →
+pub text_seated : (memory ram text : List ℕ) (frames : ℕ) → take (4096 * frames) memory ≡ ram → 2048 * 4096 ≤ length ram
+    → length ram ≡ 4096 * frames →
     part ram 0x100000 (length text) ≡ text → part memory 0x100000 (length text) ≡ text
 text_seated memory ram text frames front large long stands =
     let room = text_room ram text large stands in

@@ -19,7 +19,8 @@ use Rattle.wedge_core.specs.Promises.{HasFills, HasMemory}
 -- One run from a state has this text, count of steps and end. The host completed exactly its direct instructions, and where
 -- it has done all its steps, its memory is the host's first frames with the text patched. Its sets keep the rule for kept
 -- translations, that by which it stops among them: a guest that goes on has no translations and a pool of 512 frames.
-pub record PromiseFrom (m : Setting) (n : ℕ) (first : State) (text : List ℕ) (count : ℕ) (end : End) (before after : Counts) (memory : List ℕ) : Type 0 where
+pub record PromiseFrom (m : Setting) (n : ℕ) (first : State) (text : List ℕ) (count : ℕ) (end : End) (before after : Counts)
+    (memory : List ℕ) : Type 0 where
   pub sets : List Set
   pub reports : List Report
   pub last : State
@@ -34,7 +35,8 @@ pub record PromiseFrom (m : Setting) (n : ℕ) (first : State) (text : List ℕ)
 -- did, and the host's counts and memory. As many pages were filled as bound the run's sets.
 abbrev pub WedgeGoesTo : Setting → ℕ → State → Around → List ℕ → Result Ended RunFault → Type 0
 WedgeGoesTo m n first a memory (Ok ended) =
-    (text : List ℕ) × (run : PromiseFrom m n first text ended.steps ended.end a.counts a.counts_after memory) × Appends a.taken a.taken_after text
+    (text : List ℕ) × (run : PromiseFrom m n first text ended.steps ended.end a.counts a.counts_after memory)
+    × Appends a.taken a.taken_after text
     × (a.faults_after ≡ a.faults) × HasFills m run.sets run.last ended.fills
 -- the sink failed, and has taken a front of the text of some run
 WedgeGoesTo m n first a memory (Err fault.Write) =

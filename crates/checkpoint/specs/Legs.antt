@@ -52,7 +52,8 @@ LegsAreARun =
     (m : Setting) (n : ℕ) (legs : List Leg) (leg : Leg) (mid last : State) (end : End)
     → Legs m (boot m) legs mid → Run (in_mode m leg.mode) n (rested mid) leg.sets leg.reports last end
     → (whole : Set)
-    × Run (on_bare m) (bound_on_bare n last end) (boot m) (sets_of legs ++ leg.sets) (reports_of legs ++ leg.reports) (with_set last whole) (end_on_bare end)
+    × Run (on_bare m) (bound_on_bare n last end) (boot m) (sets_of legs ++ leg.sets) (reports_of legs ++ leg.reports)
+    (with_set last whole) (end_on_bare end)
 
 -- legs from the start, and one more that ends, are the parts of one run from there, which ends so by the rules of the last
 abbrev pub LegsAreParts : Type 0

@@ -34,7 +34,8 @@ NothingDone counts old new before now = (new ≡ old) × (now ≡ before) × cou
 
 -- The lines of a run that has done all its steps were put, the sink's count of faults is as it was, and a checkpoint can be
 -- made of the last state.
-pub record RestsWith (m : Setting) (n : ℕ) (first : model.State) (counts : Counting) (old new : Option (List ℕ)) (before now : ℕ) (last : model.State) : Type 0 where
+pub record RestsWith (m : Setting) (n : ℕ) (first : model.State) (counts : Counting) (old new : Option (List ℕ)) (before now : ℕ)
+    (last : model.State) : Type 0 where
   pub text : List ℕ
   pub rests : RestsTo m n first counts text last ends.Bound
   pub form : IsInForm (kept_of last)
@@ -56,7 +57,8 @@ RestsAs m n first counts old new before now (Ok (Stopped ended)) =
     × AreFilled m.mode m rests.sets last ended.fills
 -- the sink failed, and has taken a front of what some run puts
 RestsAs m n first counts old new before now (Err fault.Write) =
-    (last : model.State) × (end : End) × (text : List ℕ) × RestsTo m n first no_counts text last end × AppendsFront old new text × Rose before now
+    (last : model.State) × (end : End) × (text : List ℕ) × RestsTo m n first no_counts text last end
+    × AppendsFront old new text × Rose before now
 RestsAs m n first counts old new before now (Err (fault.TooSmall small)) = ⊥
 -- no memory was found for the run, or its lines were put and none was found for the state
 RestsAs m n first counts old new before now (Err fault.Memory) =
@@ -64,8 +66,10 @@ RestsAs m n first counts old new before now (Err fault.Memory) =
 
 -- the same of a run from where every run begins, or the image needs more frames than there are
 abbrev pub RestsFromStart : Setting → ℕ → Counting → Option (List ℕ) → Option (List ℕ) → ℕ → ℕ → Result Rested RunFault → Type 0
-RestsFromStart m n counts old new before now (Ok rested) = (need m.image ≤ m.frames) × RestsAs m n (boot m) counts old new before now (Ok rested)
-RestsFromStart m n counts old new before now (Err fault.Write) = (need m.image ≤ m.frames) × RestsAs m n (boot m) counts old new before now (Err fault.Write)
+RestsFromStart m n counts old new before now (Ok rested) =
+    (need m.image ≤ m.frames) × RestsAs m n (boot m) counts old new before now (Ok rested)
+RestsFromStart m n counts old new before now (Err fault.Write) =
+    (need m.image ≤ m.frames) × RestsAs m n (boot m) counts old new before now (Err fault.Write)
 RestsFromStart m n counts old new before now (Err (fault.TooSmall small)) =
     (m.frames < need m.image) × (small ≡ record { need = need m.image; have = m.frames }) × NothingDone counts old new before now
 RestsFromStart m n counts old new before now (Err fault.Memory) =

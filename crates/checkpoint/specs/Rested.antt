@@ -19,7 +19,8 @@ abbrev pub Counting : Type 1
 Counting = List Report → Type 0
 
 -- One run from a state ends so, and this is what it puts. What is counted is said of its reports.
-pub record RestsTo (m : Setting) (n : ℕ) (first : model.State) (counts : Counting) (text : List ℕ) (last : model.State) (end : End) : Type 0 where
+pub record RestsTo (m : Setting) (n : ℕ) (first : model.State) (counts : Counting) (text : List ℕ) (last : model.State)
+    (end : End) : Type 0 where
   pub sets : List Set
   pub reports : List Report
   pub run : Run m n first sets reports last end

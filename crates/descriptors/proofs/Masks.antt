@@ -9,11 +9,13 @@ abbrev at : ℕ → ℕ
 at bit = 2 ^ bit
 
 pub control_0_flags :
-    CR0_PE ∷ CR0_MP ∷ CR0_EM ∷ CR0_TS ∷ CR0_ET ∷ CR0_NE ∷ CR0_WP ∷ CR0_AM ∷ CR0_PG ∷ [] ≡ at 0 ∷ at 1 ∷ at 2 ∷ at 3 ∷ at 4 ∷ at 5 ∷ at 16 ∷ at 18 ∷ at 31 ∷ []
+    CR0_PE ∷ CR0_MP ∷ CR0_EM ∷ CR0_TS ∷ CR0_ET ∷ CR0_NE ∷ CR0_WP ∷ CR0_AM ∷ CR0_PG ∷ [] ≡ at 0 ∷ at 1 ∷ at 2 ∷ at 3 ∷ at 4 ∷ at 5 ∷ at
+    16 ∷ at 18 ∷ at 31 ∷ []
 control_0_flags = refl
 
 pub other_flags :
-    CR3_PWT ∷ CR3_PCD ∷ CR4_PSE ∷ EFLAGS_TF ∷ EFLAGS_IF ∷ EFLAGS_IOPL ∷ EFLAGS_NT ∷ [] ≡ at 3 ∷ at 4 ∷ at 4 ∷ at 8 ∷ at 9 ∷ at 12 ∷ at 14 ∷ []
+    CR3_PWT ∷ CR3_PCD ∷ CR4_PSE ∷ EFLAGS_TF ∷ EFLAGS_IF ∷ EFLAGS_IOPL ∷ EFLAGS_NT ∷ [] ≡ at 3 ∷ at 4 ∷ at 4 ∷ at 8 ∷ at
+    9 ∷ at 12 ∷ at 14 ∷ []
 other_flags = refl
 
 pub control_0_needed_is : control_0_needed ≡ 0x8000_0001

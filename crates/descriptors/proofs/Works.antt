@@ -18,7 +18,8 @@ use Rattle.descriptors.proofs.Made.{Made, Room}
 abbrev pub Tells : {E : Type 0} → Denials E → (E → Bool) → Type 0
 Tells denials extra = (stop : reason.Stop) → is_extra_stop stop ≡ true → extra (denials.stop stop) ≡ true
 
-met_agrees : {E : Type 0} (d : Denials E) (extra : E → Bool) → Tells d extra → (t : Touch) (s : Space) (p : Touch × Space) → TouchAgrees (t, s) p
+met_agrees : {E : Type 0} (d : Denials E) (extra : E → Bool) → Tells d extra → (t : Touch) (s : Space) (p : Touch × Space)
+    → TouchAgrees (t, s) p
     → IsExtra extra (met d t s) ⊎ (met d p.0 p.1 ≡ bared (met d t s))
 met_agrees d extra h Ready s p (inl e) = absurd (clash e)
 met_agrees d extra h Ready s p (inr e) = inr (ap (λ q. met d q.0 q.1) e)
@@ -27,12 +28,14 @@ met_agrees d extra h (Fault code at) s p (inr e) = inr (ap (λ q. met d q.0 q.1)
 met_agrees d extra h (Stop stop) s p (inl e) = inl (h stop e)
 met_agrees d extra h (Stop stop) s p (inr e) = inr (ap (λ q. met d q.0 q.1) e)
 
-pub reaching_agrees : {E : Type 0} (d : Denials E) (extra : E → Bool) → Tells d extra → (at len : ℕ) (a : Access) → Agrees extra (reaching d at len a)
+pub reaching_agrees : {E : Type 0} (d : Denials E) (extra : E → Bool) → Tells d extra → (at len : ℕ) (a : Access)
+    → Agrees extra (reaching d at len a)
 unfolding reaching
 reaching_agrees d extra h at len a =
     record { at_each = λ s. met_agrees d extra h (uses s at len a).0 (uses s at len a).1 (uses (bare s) at len a) (uses_agree s at len a) }
 
-pub made_agrees : {E : Type 0} {d : Denials E} {user : Bool} {A : Type 0} {r s : Room} {w : Work E A} (extra : E → Bool) → Tells d extra → Made d user A r s w → Agrees extra w
+pub made_agrees : {E : Type 0} {d : Denials E} {user : Bool} {A : Type 0} {r s : Room} {w : Work E A} (extra : E → Bool) → Tells d extra
+    → Made d user A r s w → Agrees extra w
 made_agrees extra tells (Made.follows h k) = then_agrees (made_agrees extra tells h) (λ x. made_agrees extra tells (k x))
 made_agrees extra tells (Made.given x) = gives_agrees extra x
 made_agrees extra tells (Made.refused e) = refuses_agrees extra e

@@ -63,11 +63,13 @@ pub read_by_first : (bytes : List ℕ) (e : Fault) → IsFirstOf (wrong_image by
 unfolding image_in
 read_by_first bytes e h = first_tested ImageParts (wrong_image bytes) causes (image_at bytes) e h
 
-two_loads : (bytes : List ℕ) → loads bytes ≡ Two (first_of (loads bytes)) (second_of (loads bytes)) → filter (is_load bytes) (headers bytes) ≡ first_of (loads bytes) ∷ second_of (loads bytes) ∷ []
+two_loads : (bytes : List ℕ) → loads bytes ≡ Two (first_of (loads bytes)) (second_of (loads bytes))
+    → filter (is_load bytes) (headers bytes) ≡ first_of (loads bytes) ∷ second_of (loads bytes) ∷ []
 unfolding loads
 two_loads bytes e = two-is (filter (is_load bytes) (headers bytes)) _ _ e
 
-one_site : (bytes : List ℕ) → sites_sections bytes ≡ One (first_of (sites_sections bytes)) → filter (is_sites (names bytes) bytes) (sections bytes) ≡ first_of (sites_sections bytes) ∷ []
+one_site : (bytes : List ℕ) → sites_sections bytes ≡ One (first_of (sites_sections bytes))
+    → filter (is_sites (names bytes) bytes) (sections bytes) ≡ first_of (sites_sections bytes) ∷ []
 unfolding sites_sections
 one_site bytes e = one-is (filter (is_sites (names bytes) bytes) (sections bytes)) _ e
 
@@ -108,8 +110,11 @@ pub if_read : (bytes : List ℕ) (r : Result ImageParts ElfFault) → Gives (λ 
 if_read bytes (Ok image) given = read_as bytes image given
 if_read bytes (Err e) given = tt
 
-pub if_as : (bytes : List ℕ) (r : Result ImageParts ElfFault) → Gives (λ image. image) r (image_in bytes) → (image : ImageParts) → ImageAs bytes image → Gives (λ image. image) r (Ok image)
+pub if_as : (bytes : List ℕ) (r : Result ImageParts ElfFault) → Gives (λ image. image) r (image_in bytes) → (image : ImageParts)
+    → ImageAs bytes image → Gives (λ image. image) r (Ok image)
 if_as bytes r given image is = subst (λ (read : Result ImageParts Fault). Gives (λ image. image) r read) (as_read bytes image is) given
 
-pub if_first : (bytes : List ℕ) (r : Result ImageParts ElfFault) → Gives (λ image. image) r (image_in bytes) → (at : ℕ) (cause : ElfCause) → r ≡ Err (faults.At at cause) → IsFirstOf (wrong_image bytes) causes at cause
-if_first bytes r given at cause e = read_first bytes (record { at = at; cause = cause }) (subst (λ (s : Result ImageParts ElfFault). Gives (λ image. image) s (image_in bytes)) e given)
+pub if_first : (bytes : List ℕ) (r : Result ImageParts ElfFault) → Gives (λ image. image) r (image_in bytes) → (at : ℕ) (cause : ElfCause)
+    → r ≡ Err (faults.At at cause) → IsFirstOf (wrong_image bytes) causes at cause
+if_first bytes r given at cause e = read_first bytes (record { at = at; cause = cause })
+    (subst (λ (s : Result ImageParts ElfFault). Gives (λ image. image) s (image_in bytes)) e given)

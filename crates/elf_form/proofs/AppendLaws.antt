@@ -28,13 +28,17 @@ module _ (h l z s : List ℕ) where
   pub behind_text : (t p i r : List ℕ) → (h ++ (l ++ (z ++ (t ++ p)))) ++ (i ++ (r ++ s)) ≡ h ++ (l ++ (z ++ ((t ++ (p ++ (i ++ r))) ++ s)))
   behind_text t p i r = simp append_assoc
 
-  pub behind_init : (t p i q a r : List ℕ) → (h ++ (l ++ (z ++ (t ++ (p ++ (i ++ q)))))) ++ (a ++ (r ++ s)) ≡ h ++ (l ++ (z ++ ((t ++ (p ++ (i ++ (q ++ (a ++ r))))) ++ s)))
+  pub behind_init : (t p i q a r : List ℕ) → (h ++ (l ++ (z ++ (t ++ (p ++ (i ++ q)))))) ++ (a ++ (r ++ s)) ≡ h
+      ++ (l ++ (z ++ ((t ++ (p ++ (i ++ (q ++ (a ++ r))))) ++ s)))
   behind_init t p i q a r = simp append_assoc
 
-  pub behind_sites : (t p i q a n r : List ℕ) → (h ++ (l ++ (z ++ (t ++ (p ++ (i ++ (q ++ a))))))) ++ (n ++ (r ++ s)) ≡ h ++ (l ++ (z ++ ((t ++ (p ++ (i ++ (q ++ (a ++ (n ++ r)))))) ++ s)))
+  pub behind_sites : (t p i q a n r : List ℕ) → (h ++ (l ++ (z ++ (t ++ (p ++ (i ++ (q ++ a))))))) ++ (n ++ (r ++ s)) ≡ h
+      ++ (l ++ (z ++ ((t ++ (p ++ (i ++ (q ++ (a ++ (n ++ r)))))) ++ s)))
   behind_sites t p i q a n r = simp append_assoc
 
-pub in_one_row : (t p i q a r b c d e u n v s : List ℕ) → (t ++ (p ++ (i ++ (q ++ (a ++ r))))) ++ ((b ++ (c ++ (d ++ (e ++ (u ++ (n ++ v)))))) ++ s) ≡ t ++ (p ++ (i ++ (q ++ (a ++ (r ++ (b ++ (c ++ (d ++ (e ++ (u ++ (n ++ (v ++ s))))))))))))
+pub in_one_row : (t p i q a r b c d e u n v s : List ℕ) → (t ++ (p ++ (i ++ (q ++ (a ++ r)))))
+    ++ ((b ++ (c ++ (d ++ (e ++ (u ++ (n ++ v)))))) ++ s) ≡ t
+    ++ (p ++ (i ++ (q ++ (a ++ (r ++ (b ++ (c ++ (d ++ (e ++ (u ++ (n ++ (v ++ s))))))))))))
 in_one_row t p i q a r b c d e u n v s = simp append_assoc
 
 pub behind_two : (h p t s : List ℕ) → (h ++ (p ++ t)) ++ s ≡ h ++ (p ++ (t ++ s))

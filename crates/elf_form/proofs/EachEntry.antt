@@ -17,7 +17,8 @@ pub each_append : {A : Type 0} (P : A → Type 0) (xs ys : List A) → Each P xs
 each_append P [] ys h k = k
 each_append P (x ∷ xs) ys h k = (h.0, each_append P xs ys h.1 k)
 
-pub each_map : {A B : Type 0} (f : A → B) (P : A → Type 0) (Q : B → Type 0) (xs : List A) → ((x : A) → P x → Q (f x)) → Each P xs → Each Q (map f xs)
+pub each_map : {A B : Type 0} (f : A → B) (P : A → Type 0) (Q : B → Type 0) (xs : List A) → ((x : A) → P x → Q (f x))
+    → Each P xs → Each Q (map f xs)
 each_map f P Q [] to h = tt
 each_map f P Q (x ∷ xs) to h = (to x h.0, each_map f P Q xs to h.1)
 
@@ -32,7 +33,8 @@ each_all P (x ∷ xs) h (suc k) d lt = each_all P xs h.1 k d (omega arith)
 
 -- ---- tests that found no place
 
-pub fold_none : (t : Entry → Option ℕ) (a : Option ℕ) (es : List Entry) → fold (λ lowest e. lowest or_lower t e) a es ≡ None → (a ≡ None) × Each (λ e. t e ≡ None) es
+pub fold_none : (t : Entry → Option ℕ) (a : Option ℕ) (es : List Entry) → fold (λ lowest e. lowest or_lower t e) a es ≡ None → (a ≡ None)
+    × Each (λ e. t e ≡ None) es
 fold_none t a [] h = (h, tt)
 fold_none t a (e ∷ es) h =
     let rest = fold_none t (a or_lower t e) es h in

@@ -27,7 +27,10 @@ pub record AreSmall (ns : List ℕ) (k : ℕ) : Type 0 where
   pub size : get_or ns (k + 5) 0 < 2 ^ 32
 
 -- the row that begins at the number k of a table, which the file f has at t
-pub row_of : (f ns : List ℕ) (t k s : ℕ) → ((j at : ℕ) → j < length ns → get_or ns j 0 < 2 ^ 32 → t + 4 * j ≡ at → word32 f at ≡ get_or ns j 0) → k + 10 ≤ length ns → AreSmall ns k → t + 4 * k ≡ s → IsRow f s (get_or ns k 0) (get_or ns (k + 1) 0) (get_or ns (k + 2) 0) (get_or ns (k + 4) 0) (get_or ns (k + 5) 0)
+pub row_of : (f ns : List ℕ) (t k s : ℕ)
+    → ((j at : ℕ) → j < length ns → get_or ns j 0 < 2 ^ 32 → t + 4 * j ≡ at → word32 f at ≡ get_or ns j 0) → k + 10 ≤ length ns
+    → AreSmall ns k → t + 4 * k ≡ s → IsRow f s (get_or ns k 0) (get_or ns (k + 1) 0) (get_or ns (k + 2) 0) (get_or ns (k + 4) 0)
+    (get_or ns (k + 5) 0)
 row_of f ns t k s words le small e = record {
   name = words k s (omega arith) small.name e;
   kind = words (k + 1) (s + 4) (omega arith) small.kind (omega arith);
@@ -64,7 +67,8 @@ file-front : (p : ImageParts) → image_bytes p ≡ front p ++ (longs (section_n
 unfolding image_bytes front
 file-front p =
     let table = longs (section_numbers p) in
-    let regrouped : (header p ++ (longs (program_numbers p) ++ (replicate 3980 0 ++ body p))) ++ table ≡ image_bytes p = behind_front (header p) (longs (program_numbers p)) (replicate 3980 0) (longs (section_numbers p)) (body p) in
+    let regrouped : (header p ++ (longs (program_numbers p) ++ (replicate 3980 0 ++ body p))) ++ table ≡ image_bytes p =
+    behind_front (header p) (longs (program_numbers p)) (replicate 3980 0) (longs (section_numbers p)) (body p) in
     sym regrouped ∙ ap (λ (t : List ℕ). front p ++ t) (sym (append-nil table))
 
 length-header : (p : ImageParts) → length (header p) ≡ 52
@@ -80,14 +84,24 @@ unfolding front
 length-front p = simp (length-append, length-replicate) (omega (arith, length-header p, length-body p))
 
 pub length-file : (p : ImageParts) → length (image_bytes p) ≡ sections_from p + 240
-length-file p = rw (file-front p) (omega (arith, length-append (front p) (longs (section_numbers p) ++ []), length-append (longs (section_numbers p)) [], length-longs (section_numbers p), length-front p))
+length-file p = rw (file-front p) (omega (
+  arith,
+  length-append (front p) (longs (section_numbers p) ++ []),
+  length-append (longs (section_numbers p)) [],
+  length-longs (section_numbers p),
+  length-front p,
+))
 
-program_word : (p : ImageParts) (k at : ℕ) → k < 16 → get_or (program_numbers p) k 0 < 2 ^ 32 → 52 + 4 * k ≡ at → word32 (image_bytes p) at ≡ get_or (program_numbers p) k 0
+program_word : (p : ImageParts) (k at : ℕ) → k < 16 → get_or (program_numbers p) k 0 < 2 ^ 32 → 52 + 4 * k ≡ at
+    → word32 (image_bytes p) at ≡ get_or (program_numbers p) k 0
 unfolding image_bytes
-program_word p k at lt small e = row_behind (header p) (program_numbers p) (replicate 3980 0 ++ (body p ++ longs (section_numbers p))) k at lt small (ap (λ (n : ℕ). n + 4 * k) (length-header p) ∙ e)
+program_word p k at lt small e = row_behind (header p) (program_numbers p) (replicate 3980 0 ++ (body p ++ longs (section_numbers p))) k at
+    lt small (ap (λ (n : ℕ). n + 4 * k) (length-header p) ∙ e)
 
-section_word : (p : ImageParts) (k at : ℕ) → k < 60 → get_or (section_numbers p) k 0 < 2 ^ 32 → sections_from p + 4 * k ≡ at → word32 (image_bytes p) at ≡ get_or (section_numbers p) k 0
-section_word p k at lt small e = rw (file-front p) (row_behind (front p) (section_numbers p) [] k at lt small (ap (λ (n : ℕ). n + 4 * k) (length-front p) ∙ e))
+section_word : (p : ImageParts) (k at : ℕ) → k < 60 → get_or (section_numbers p) k 0 < 2 ^ 32 → sections_from p + 4 * k ≡ at
+    → word32 (image_bytes p) at ≡ get_or (section_numbers p) k 0
+section_word p k at lt small e =
+    rw (file-front p) (row_behind (front p) (section_numbers p) [] k at lt small (ap (λ (n : ℕ). n + 4 * k) (length-front p) ∙ e))
 
 -- ---- the header
 
@@ -167,7 +181,8 @@ names_placed p fits = (numbers_fit p fits).names
 -- what writing a number as four bytes takes
 pub ruleset numbers = (text_fits, sites_fit, init_placed, sites_placed, names_placed)
 
-pub text_program : (p : ImageParts) → HasNumbers p → HasLongs p → IsProgram (image_bytes p) 52 4096 p.text_at (length p.text) (length p.text) 5
+pub text_program : (p : ImageParts) → HasNumbers p → HasLongs p
+    → IsProgram (image_bytes p) 52 4096 p.text_at (length p.text) (length p.text) 5
 text_program p small longs = record {
   kind = program_word p 0 52 (lit< tt) (lit< tt) refl;
   offset = program_word p 1 56 (lit< tt) (lit< tt) refl;
@@ -177,7 +192,8 @@ text_program p small longs = record {
   flags = program_word p 6 76 (lit< tt) (lit< tt) refl;
 }
 
-pub init_program : (p : ImageParts) → HasNumbers p → HasLongs p → IsProgram (image_bytes p) 84 (init_from p) p.init_at (length p.init) (length p.init + p.bss) 6
+pub init_program : (p : ImageParts) → HasNumbers p → HasLongs p → IsProgram (image_bytes p) 84 (init_from p) p.init_at (length p.init)
+    (length p.init + p.bss) 6
 init_program p small longs = record {
   kind = program_word p 8 84 (lit< tt) (lit< tt) refl;
   offset = program_word p 9 88 (lit< tt) small.init refl;
@@ -187,64 +203,93 @@ init_program p small longs = record {
   flags = program_word p 14 108 (lit< tt) (lit< tt) refl;
 }
 
-section_row : (p : ImageParts) (k s : ℕ) → k + 10 ≤ 60 → AreSmall (section_numbers p) k → sections_from p + 4 * k ≡ s → IsRow (image_bytes p) s (get_or (section_numbers p) k 0) (get_or (section_numbers p) (k + 1) 0) (get_or (section_numbers p) (k + 2) 0) (get_or (section_numbers p) (k + 4) 0) (get_or (section_numbers p) (k + 5) 0)
+section_row : (p : ImageParts) (k s : ℕ) → k + 10 ≤ 60 → AreSmall (section_numbers p) k → sections_from p + 4 * k ≡ s
+    → IsRow (image_bytes p) s (get_or (section_numbers p) k 0) (get_or (section_numbers p) (k + 1) 0) (get_or (section_numbers p) (k + 2) 0)
+    (get_or (section_numbers p) (k + 4) 0) (get_or (section_numbers p) (k + 5) 0)
 section_row p k s le small e = row_of (image_bytes p) (section_numbers p) (sections_from p) k s (λ j at. section_word p j at) le small e
 
 pub null_row : (p : ImageParts) (s : ℕ) → HasNumbers p → sections_from p + 0 ≡ s → IsRow (image_bytes p) s 0 0 0 0 0
-null_row p s small e = section_row p 0 s (lit≤ tt) (record { name = lit< tt; kind = lit< tt; flags = lit< tt; offset = lit< tt; size = lit< tt }) e
+null_row p s small e =
+    section_row p 0 s (lit≤ tt) (record { name = lit< tt; kind = lit< tt; flags = lit< tt; offset = lit< tt; size = lit< tt }) e
 
 pub text_row : (p : ImageParts) (s : ℕ) → HasNumbers p → sections_from p + 40 ≡ s → IsRow (image_bytes p) s 1 1 6 4096 (length p.text)
-text_row p s small e = section_row p 10 s (lit≤ tt) (record { name = lit< tt; kind = lit< tt; flags = lit< tt; offset = lit< tt; size = small.text }) e
+text_row p s small e =
+    section_row p 10 s (lit≤ tt) (record { name = lit< tt; kind = lit< tt; flags = lit< tt; offset = lit< tt; size = small.text }) e
 
-pub data_row : (p : ImageParts) (s : ℕ) → HasNumbers p → sections_from p + 80 ≡ s → IsRow (image_bytes p) s 7 1 3 (init_from p) (length p.init)
-data_row p s small e = section_row p 20 s (lit≤ tt) (record { name = lit< tt; kind = lit< tt; flags = lit< tt; offset = small.init; size = small.init_size }) e
+pub data_row : (p : ImageParts) (s : ℕ) → HasNumbers p → sections_from p + 80 ≡ s
+    → IsRow (image_bytes p) s 7 1 3 (init_from p) (length p.init)
+data_row p s small e =
+    section_row p 20 s (lit≤ tt) (record { name = lit< tt; kind = lit< tt; flags = lit< tt; offset = small.init; size = small.init_size }) e
 
 pub bss_row : (p : ImageParts) (s : ℕ) → HasNumbers p → sections_from p + 120 ≡ s → IsRow (image_bytes p) s 13 8 3 0 p.bss
-bss_row p s small e = section_row p 30 s (lit≤ tt) (record { name = lit< tt; kind = lit< tt; flags = lit< tt; offset = lit< tt; size = small.bss }) e
+bss_row p s small e =
+    section_row p 30 s (lit≤ tt) (record { name = lit< tt; kind = lit< tt; flags = lit< tt; offset = lit< tt; size = small.bss }) e
 
-pub sites_row : (p : ImageParts) (s : ℕ) → HasNumbers p → sections_from p + 160 ≡ s → IsRow (image_bytes p) s 18 1 0 (sites_from p) (length p.sites)
-sites_row p s small e = section_row p 40 s (lit≤ tt) (record { name = lit< tt; kind = lit< tt; flags = lit< tt; offset = small.sites; size = small.sites_size }) e
+pub sites_row : (p : ImageParts) (s : ℕ) → HasNumbers p → sections_from p + 160 ≡ s
+    → IsRow (image_bytes p) s 18 1 0 (sites_from p) (length p.sites)
+sites_row p s small e =
+    section_row p 40 s (lit≤ tt) (record { name = lit< tt; kind = lit< tt; flags = lit< tt; offset = small.sites; size = small.sites_size })
+    e
 
 pub names_row : (p : ImageParts) (s : ℕ) → HasNumbers p → sections_from p + 200 ≡ s → IsRow (image_bytes p) s 28 3 0 (names_from p) 38
-names_row p s small e = section_row p 50 s (lit≤ tt) (record { name = lit< tt; kind = lit< tt; flags = lit< tt; offset = small.names; size = lit< tt }) e
+names_row p s small e =
+    section_row p 50 s (lit≤ tt) (record { name = lit< tt; kind = lit< tt; flags = lit< tt; offset = small.names; size = lit< tt }) e
 
 -- ---- the parts
 
 pub text_part : (p : ImageParts) → part (image_bytes p) 4096 (length p.text) ≡ p.text
 unfolding image_bytes body
 text_part p =
-    let rest = replicate (pad 4096 (4096 + length p.text)) 0 ++ (p.init ++ (replicate (pad 4 (init_from p + length p.init)) 0 ++ (p.sites ++ (section_names ++ replicate (pad 4 (names_from p + 38)) 0)))) in
+    let rest = replicate (pad 4096 (4096 + length p.text)) 0
+    ++ (p.init ++ (replicate (pad 4 (init_from p + length p.init)) 0
+    ++ (p.sites ++ (section_names ++ replicate (pad 4 (names_from p + 38)) 0)))) in
     let before = header p ++ (longs (program_numbers p) ++ replicate 3980 0) in
-    let regrouped : before ++ (p.text ++ (rest ++ longs (section_numbers p))) ≡ image_bytes p = behind_tables (header p) (longs (program_numbers p)) (replicate 3980 0) (longs (section_numbers p)) p.text rest in
+    let regrouped : before ++ (p.text ++ (rest ++ longs (section_numbers p))) ≡ image_bytes p =
+    behind_tables (header p) (longs (program_numbers p)) (replicate 3980 0) (longs (section_numbers p)) p.text rest in
     let len : length before ≡ 4096 = simp (length-append, length-replicate) (omega (arith, length-header p)) in
-    ap (λ (f : List ℕ). part f 4096 (length p.text)) (sym regrouped) ∙ part-middle before p.text (rest ++ longs (section_numbers p)) 4096 (length p.text) len refl
+    ap (λ (f : List ℕ). part f 4096 (length p.text)) (sym regrouped) ∙ part-middle before p.text (rest ++ longs (section_numbers p)) 4096
+    (length p.text) len refl
 
 pub init_part : (p : ImageParts) → part (image_bytes p) (init_from p) (length p.init) ≡ p.init
 unfolding image_bytes body init_from
 init_part p =
-    let rest = replicate (pad 4 (init_from p + length p.init)) 0 ++ (p.sites ++ (section_names ++ replicate (pad 4 (names_from p + 38)) 0)) in
-    let before = header p ++ (longs (program_numbers p) ++ (replicate 3980 0 ++ (p.text ++ replicate (pad 4096 (4096 + length p.text)) 0))) in
+    let rest =
+    replicate (pad 4 (init_from p + length p.init)) 0 ++ (p.sites ++ (section_names ++ replicate (pad 4 (names_from p + 38)) 0)) in
+    let before =
+    header p ++ (longs (program_numbers p) ++ (replicate 3980 0 ++ (p.text ++ replicate (pad 4096 (4096 + length p.text)) 0))) in
     let regrouped : before ++ (p.init ++ (rest ++ longs (section_numbers p))) ≡ image_bytes p =
-    behind_text (header p) (longs (program_numbers p)) (replicate 3980 0) (longs (section_numbers p)) p.text (replicate (pad 4096 (4096 + length p.text)) 0) p.init rest in
+    behind_text (header p) (longs (program_numbers p)) (replicate 3980 0) (longs (section_numbers p)) p.text
+    (replicate (pad 4096 (4096 + length p.text)) 0) p.init rest in
     let len : length before ≡ init_from p = simp (length-append, length-replicate) (omega (arith, length-header p)) in
-    ap (λ (f : List ℕ). part f (init_from p) (length p.init)) (sym regrouped) ∙ part-middle before p.init (rest ++ longs (section_numbers p)) (init_from p) (length p.init) len refl
+    ap (λ (f : List ℕ). part f (init_from p) (length p.init)) (sym regrouped)
+    ∙ part-middle before p.init (rest ++ longs (section_numbers p)) (init_from p) (length p.init) len refl
 
 pub sites_part : (p : ImageParts) → part (image_bytes p) (sites_from p) (length p.sites) ≡ p.sites
 unfolding image_bytes body init_from sites_from
 sites_part p =
     let rest = section_names ++ replicate (pad 4 (names_from p + 38)) 0 in
-    let before = header p ++ (longs (program_numbers p) ++ (replicate 3980 0 ++ (p.text ++ (replicate (pad 4096 (4096 + length p.text)) 0 ++ (p.init ++ replicate (pad 4 (init_from p + length p.init)) 0))))) in
+    let before =
+    header p ++ (longs (program_numbers p)
+    ++ (replicate 3980 0 ++ (p.text
+    ++ (replicate (pad 4096 (4096 + length p.text)) 0 ++ (p.init ++ replicate (pad 4 (init_from p + length p.init)) 0))))) in
     let regrouped : before ++ (p.sites ++ (rest ++ longs (section_numbers p))) ≡ image_bytes p =
-    behind_init (header p) (longs (program_numbers p)) (replicate 3980 0) (longs (section_numbers p)) p.text (replicate (pad 4096 (4096 + length p.text)) 0) p.init (replicate (pad 4 (init_from p + length p.init)) 0) p.sites rest in
+    behind_init (header p) (longs (program_numbers p)) (replicate 3980 0) (longs (section_numbers p)) p.text
+    (replicate (pad 4096 (4096 + length p.text)) 0) p.init (replicate (pad 4 (init_from p + length p.init)) 0) p.sites rest in
     let len : length before ≡ sites_from p = simp (length-append, length-replicate) (omega (arith, length-header p)) in
-    ap (λ (f : List ℕ). part f (sites_from p) (length p.sites)) (sym regrouped) ∙ part-middle before p.sites (rest ++ longs (section_numbers p)) (sites_from p) (length p.sites) len refl
+    ap (λ (f : List ℕ). part f (sites_from p) (length p.sites)) (sym regrouped)
+    ∙ part-middle before p.sites (rest ++ longs (section_numbers p)) (sites_from p) (length p.sites) len refl
 
 pub names_part : (p : ImageParts) → part (image_bytes p) (names_from p) 38 ≡ section_names
 unfolding image_bytes body init_from sites_from names_from
 names_part p =
     let rest = replicate (pad 4 (names_from p + 38)) 0 in
-    let before = header p ++ (longs (program_numbers p) ++ (replicate 3980 0 ++ (p.text ++ (replicate (pad 4096 (4096 + length p.text)) 0 ++ (p.init ++ (replicate (pad 4 (init_from p + length p.init)) 0 ++ p.sites)))))) in
+    let before =
+    header p ++ (longs (program_numbers p)
+    ++ (replicate 3980 0 ++ (p.text
+    ++ (replicate (pad 4096 (4096 + length p.text)) 0 ++ (p.init ++ (replicate (pad 4 (init_from p + length p.init)) 0 ++ p.sites)))))) in
     let regrouped : before ++ (section_names ++ (rest ++ longs (section_numbers p))) ≡ image_bytes p =
-    behind_sites (header p) (longs (program_numbers p)) (replicate 3980 0) (longs (section_numbers p)) p.text (replicate (pad 4096 (4096 + length p.text)) 0) p.init (replicate (pad 4 (init_from p + length p.init)) 0) p.sites section_names rest in
+    behind_sites (header p) (longs (program_numbers p)) (replicate 3980 0) (longs (section_numbers p)) p.text
+    (replicate (pad 4096 (4096 + length p.text)) 0) p.init (replicate (pad 4 (init_from p + length p.init)) 0) p.sites section_names rest in
     let len : length before ≡ names_from p = simp (length-append, length-replicate) (omega (arith, length-header p)) in
-    ap (λ (f : List ℕ). part f (names_from p) 38) (sym regrouped) ∙ part-middle before section_names (rest ++ longs (section_numbers p)) (names_from p) 38 len refl
+    ap (λ (f : List ℕ). part f (names_from p) 38) (sym regrouped) ∙ part-middle before section_names (rest ++ longs (section_numbers p))
+    (names_from p) 38 len refl

@@ -24,7 +24,8 @@ module _ (C : Type 0) (wrong : C → Option ℕ) where
         step more zero d lt there = let same : c ≡ d = cc in ap wrong (sym same) ∙ later.0
         step more (suc j) d lt there = more.before j d (omega (arith, lt)) there
 
-  pub list_first : (cs : List C) (at : ℕ) (cause : C) (index : ℕ) → slice_get cs index ≡ Some cause → wrong cause ≡ Some at → ((j : ℕ) (c : C) → j < index → slice_get cs j ≡ Some c → wrong c ≡ None) → IsFirstOf wrong cs at cause
+  pub list_first : (cs : List C) (at : ℕ) (cause : C) (index : ℕ) → slice_get cs index ≡ Some cause → wrong cause ≡ Some at
+      → ((j : ℕ) (c : C) → j < index → slice_get cs j ≡ Some c → wrong c ≡ None) → IsFirstOf wrong cs at cause
   list_first [] at cause index there is before = absurd cc
   list_first (c ∷ cs) at cause zero there is before = let same : c ≡ cause = cc in inl (ap wrong same ∙ is, sym same)
   list_first (c ∷ cs) at cause (suc k) there is before =

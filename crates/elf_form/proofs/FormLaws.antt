@@ -46,19 +46,26 @@ one_is P (Two s t) e all = absurd cc
 one_is P (More s t) e all = absurd cc
 
 -- the second program header takes no less memory than it has bytes
-pub second_fits : (bytes : List ℕ) (f : Found) → order bytes f ≡ None → memory_sizes bytes f ≡ None → word32 bytes (second_of f + 16) ≤ word32 bytes (second_of f + 20)
+pub second_fits : (bytes : List ℕ) (f : Found) → order bytes f ≡ None → memory_sizes bytes f ≡ None
+    → word32 bytes (second_of f + 16) ≤ word32 bytes (second_of f + 20)
 unfolding order memory_sizes
 second_fits bytes Nothing e m = absurd cc
 second_fits bytes (One a) e m = absurd cc
-second_fits bytes (Two a b) e m = ltb-false _ _ (then_none (ltb (word32 bytes (b + 20)) (word32 bytes (b + 16))) (b + 20) ((lower_none (first_size bytes a) (second_size bytes b) m).1))
+second_fits bytes (Two a b) e m =
+    ltb-false _ _ (then_none (ltb (word32 bytes (b + 20)) (word32 bytes (b + 16))) (b + 20)
+    ((lower_none (first_size bytes a) (second_size bytes b) m).1))
 second_fits bytes (More a b) e m = absurd cc
 
 -- the sizes that were compared
 pub sizes_memory : (bytes : List ℕ) → sizes bytes ≡ None → memory_sizes bytes (loads bytes) ≡ None
 unfolding sizes
 sizes_memory bytes e =
-    let rest = (lower_none (wrong_half 40 52 bytes) (wrong_half 42 32 bytes or_lower (wrong_half 46 40 bytes or_lower (memory_sizes bytes (loads bytes) or_lower too_long bytes))) e).1 in
-    let rest = (lower_none (wrong_half 42 32 bytes) (wrong_half 46 40 bytes or_lower (memory_sizes bytes (loads bytes) or_lower too_long bytes)) rest).1 in
+    let rest =
+    (lower_none (wrong_half 40 52 bytes)
+    (wrong_half 42 32 bytes or_lower (wrong_half 46 40 bytes or_lower (memory_sizes bytes (loads bytes) or_lower too_long bytes))) e).1 in
+    let rest =
+    (lower_none (wrong_half 42 32 bytes) (wrong_half 46 40 bytes or_lower (memory_sizes bytes (loads bytes) or_lower too_long bytes))
+    rest).1 in
     let rest = (lower_none (wrong_half 46 40 bytes) (memory_sizes bytes (loads bytes) or_lower too_long bytes) rest).1 in
     (lower_none (memory_sizes bytes (loads bytes)) (too_long bytes) rest).0
 

@@ -13,7 +13,8 @@ both_below n None b h k = k
 both_below n (Some x) None h k = h
 both_below n (Some x) (Some y) h k = one_below n y x (nat_lt y x) k h
 
-pub lower_below : (n : ℕ) (o a b : Option ℕ) → o ≡ a or_lower b → IfSome a (λ at. at < n) → IfSome b (λ at. at < n) → IfSome o (λ at. at < n)
+pub lower_below : (n : ℕ) (o a b : Option ℕ) → o ≡ a or_lower b → IfSome a (λ at. at < n) → IfSome b (λ at. at < n)
+    → IfSome o (λ at. at < n)
 lower_below n o a b is h k = rw is (both_below n a b h k)
 
 place_below : (n at : ℕ) (t : Bool) → at < n → IfSome (then_some t at) (λ at. at < n)

@@ -14,17 +14,20 @@ use Rattle.elf_form.proofs.TestLaws.{tested-err, first_tested, tested-ok, sound_
 
 read_as : (bytes : List ℕ) (object : ObjectParts) → object_in bytes ≡ Ok object → ObjectAs bytes object
 unfolding object_in
-read_as bytes object h = let ok = tested-ok ObjectParts (wrong_object bytes) (object_at bytes) object h in record { sound = ok.0; parts = sym ok.1 }
+read_as bytes object h = let ok =
+    tested-ok ObjectParts (wrong_object bytes) (object_at bytes) object h in record { sound = ok.0; parts = sym ok.1 }
 
 pub as_read : (bytes : List ℕ) (object : ObjectParts) → ObjectAs bytes object → object_in bytes ≡ Ok object
 unfolding object_in
-as_read bytes object is = sound_tested ObjectParts (wrong_object bytes) causes (object_at bytes) is.sound ∙ ap (λ (o : ObjectParts). Ok o) (sym is.parts)
+as_read bytes object is =
+    sound_tested ObjectParts (wrong_object bytes) causes (object_at bytes) is.sound ∙ ap (λ (o : ObjectParts). Ok o) (sym is.parts)
 
 pub if_read : (bytes : List ℕ) (r : Result ObjectParts ElfFault) → Gives (λ o. o) r (object_in bytes) → IfOk r (ObjectAs bytes)
 if_read bytes (Ok object) given = read_as bytes object given
 if_read bytes (Err e) given = tt
 
-pub if_as : (bytes : List ℕ) (r : Result ObjectParts ElfFault) → Gives (λ o. o) r (object_in bytes) → (object : ObjectParts) → ObjectAs bytes object → Gives (λ o. o) r (Ok object)
+pub if_as : (bytes : List ℕ) (r : Result ObjectParts ElfFault) → Gives (λ o. o) r (object_in bytes) → (object : ObjectParts)
+    → ObjectAs bytes object → Gives (λ o. o) r (Ok object)
 if_as bytes r given object is = subst (λ (read : Result ObjectParts Fault). Gives (λ o. o) r read) (as_read bytes object is) given
 
 pub object_first : (bytes : List ℕ) (e : Fault) → object_in bytes ≡ Err e → IsFirstOf (wrong_object bytes) causes e.at e.cause
@@ -35,5 +38,7 @@ pub object_by_first : (bytes : List ℕ) (e : Fault) → IsFirstOf (wrong_object
 unfolding object_in
 object_by_first bytes e h = first_tested ObjectParts (wrong_object bytes) causes (object_at bytes) e h
 
-pub if_first : (bytes : List ℕ) (r : Result ObjectParts ElfFault) → Gives (λ o. o) r (object_in bytes) → (at : ℕ) (cause : ElfCause) → r ≡ Err (faults.At at cause) → IsFirstOf (wrong_object bytes) causes at cause
-if_first bytes r given at cause e = object_first bytes (record { at = at; cause = cause }) (subst (λ (s : Result ObjectParts ElfFault). Gives (λ o. o) s (object_in bytes)) e given)
+pub if_first : (bytes : List ℕ) (r : Result ObjectParts ElfFault) → Gives (λ o. o) r (object_in bytes) → (at : ℕ) (cause : ElfCause)
+    → r ≡ Err (faults.At at cause) → IsFirstOf (wrong_object bytes) causes at cause
+if_first bytes r given at cause e = object_first bytes (record { at = at; cause = cause })
+    (subst (λ (s : Result ObjectParts ElfFault). Gives (λ o. o) s (object_in bytes)) e given)

@@ -26,7 +26,8 @@ strings-table : (o : ObjectParts) → length (table_bytes (names_of o.symbols)) 
 unfolding strings_of
 strings-table o = refl
 
-whole_symbol : (names : List (List ℕ)) (s : Symbol) → length (table_bytes names) < 2 ^ 31 → HasPlace names s.name → All (λ b. b ≢ 0) s.name → s.value < 2 ^ 32 → IsPlaced s → IsWholeSymbol names s
+whole_symbol : (names : List (List ℕ)) (s : Symbol) → length (table_bytes names) < 2 ^ 31 → HasPlace names s.name → All (λ b. b ≢ 0) s.name
+    → s.value < 2 ^ 32 → IsPlaced s → IsWholeSymbol names s
 whole_symbol names s small has none value placed =
     let read : IsRead names s.name = name_read names s.name has none in
     record { place = omega (arith, read.inside); value = value; read = read; undefined = placed }
@@ -34,24 +35,43 @@ whole_symbol names s small has none value placed =
 whole_symbols : (o : ObjectParts) → IsWholeObject o → HasValues o → AllByRecursion (IsWholeSymbol (names_of o.symbols)) o.symbols
 whole_symbols o whole values =
     let at = are_placed o in
-    let small : length (table_bytes (names_of o.symbols)) < 2 ^ 31 = omega (arith, strings-table o, at.strings, at.names, whole.writable.file) in
-    recursion_from_All (IsWholeSymbol (names_of o.symbols)) o.symbols (λ k d lt. whole_symbol (names_of o.symbols) (get_or o.symbols k d) small (All-from_recursion (λ s. HasPlace (names_of o.symbols) s.name) o.symbols (names_placed o.symbols) k d lt) (whole.names k d lt) (values.values k d lt) (whole.undefined k d lt))
+    let small : length (table_bytes (names_of o.symbols)) < 2 ^ 31 =
+    omega (arith, strings-table o, at.strings, at.names, whole.writable.file) in
+    recursion_from_All (IsWholeSymbol (names_of o.symbols)) o.symbols
+    (λ k d lt. whole_symbol (names_of o.symbols) (get_or o.symbols k d) small
+    (All-from_recursion (λ s. HasPlace (names_of o.symbols) s.name) o.symbols (names_placed o.symbols) k d lt) (whole.names k d lt)
+    (values.values k d lt) (whole.undefined k d lt))
 
-whole_text : (o : ObjectParts) (r : Reloc) → is_of true r ≡ true → r.symbol < length o.symbols → r.at + 4 ≤ length (relocated_part o r) → IsWholeReloc true (length o.text) (length o.symbols) r
-whole_text o r is symbol field = record { kind = is; field = subst (λ (b : Bool). r.at + 4 ≤ length (cond b o.text o.init)) is field; symbol = symbol }
+whole_text : (o : ObjectParts) (r : Reloc) → is_of true r ≡ true → r.symbol < length o.symbols → r.at + 4 ≤ length (relocated_part o r)
+    → IsWholeReloc true (length o.text) (length o.symbols) r
+whole_text o r is symbol field =
+    record { kind = is; field = subst (λ (b : Bool). r.at + 4 ≤ length (cond b o.text o.init)) is field; symbol = symbol }
 
-whole_data : (o : ObjectParts) (r : Reloc) → is_of false r ≡ true → r.symbol < length o.symbols → r.at + 4 ≤ length (relocated_part o r) → IsWholeReloc false (length o.init) (length o.symbols) r
-whole_data o r is symbol field = record { kind = not-true r.in_text is; field = subst (λ (b : Bool). r.at + 4 ≤ length (cond b o.text o.init)) (not-true r.in_text is) field; symbol = symbol }
+whole_data : (o : ObjectParts) (r : Reloc) → is_of false r ≡ true → r.symbol < length o.symbols → r.at + 4 ≤ length (relocated_part o r)
+    → IsWholeReloc false (length o.init) (length o.symbols) r
+whole_data o r is symbol field = record {
+  kind = not-true r.in_text is;
+  field = subst (λ (b : Bool). r.at + 4 ≤ length (cond b o.text o.init)) (not-true r.in_text is) field;
+  symbol = symbol;
+}
 
-whole_texts : (o : ObjectParts) → IsWholeObject o → AllByRecursion (IsWholeReloc true (length o.text) (length o.symbols)) (filter (is_of true) o.relocs)
+whole_texts : (o : ObjectParts) → IsWholeObject o → AllByRecursion (IsWholeReloc true (length o.text) (length o.symbols))
+    (filter (is_of true) o.relocs)
 whole_texts o whole =
     let rs = filter (is_of true) o.relocs in
-    recursion_from_All (IsWholeReloc true (length o.text) (length o.symbols)) rs (λ k d lt. whole_text o (get_or rs k d) (filter_passes (is_of true) o.relocs k d lt) (All-filter (is_of true) (λ r. r.symbol < length o.symbols) o.relocs whole.writable.named k d lt) (All-filter (is_of true) (λ r. r.at + 4 ≤ length (relocated_part o r)) o.relocs whole.fields k d lt))
+    recursion_from_All (IsWholeReloc true (length o.text) (length o.symbols)) rs
+    (λ k d lt. whole_text o (get_or rs k d) (filter_passes (is_of true) o.relocs k d lt)
+    (All-filter (is_of true) (λ r. r.symbol < length o.symbols) o.relocs whole.writable.named k d lt)
+    (All-filter (is_of true) (λ r. r.at + 4 ≤ length (relocated_part o r)) o.relocs whole.fields k d lt))
 
-whole_datas : (o : ObjectParts) → IsWholeObject o → AllByRecursion (IsWholeReloc false (length o.init) (length o.symbols)) (filter (is_of false) o.relocs)
+whole_datas : (o : ObjectParts) → IsWholeObject o → AllByRecursion (IsWholeReloc false (length o.init) (length o.symbols))
+    (filter (is_of false) o.relocs)
 whole_datas o whole =
     let rs = filter (is_of false) o.relocs in
-    recursion_from_All (IsWholeReloc false (length o.init) (length o.symbols)) rs (λ k d lt. whole_data o (get_or rs k d) (filter_passes (is_of false) o.relocs k d lt) (All-filter (is_of false) (λ r. r.symbol < length o.symbols) o.relocs whole.writable.named k d lt) (All-filter (is_of false) (λ r. r.at + 4 ≤ length (relocated_part o r)) o.relocs whole.fields k d lt))
+    recursion_from_All (IsWholeReloc false (length o.init) (length o.symbols)) rs
+    (λ k d lt. whole_data o (get_or rs k d) (filter_passes (is_of false) o.relocs k d lt)
+    (All-filter (is_of false) (λ r. r.symbol < length o.symbols) o.relocs whole.writable.named k d lt)
+    (All-filter (is_of false) (λ r. r.at + 4 ≤ length (relocated_part o r)) o.relocs whole.fields k d lt))
 
 -- ---- the file
 
@@ -84,28 +104,41 @@ pub record IsFileOf (f : List ℕ) (o : ObjectParts) : Type 0 where
   pub each_text : EachAt (IsRelocAt true (length o.text) (length o.symbols) f) 8 (layout o).text_relocs (filter (is_of true) o.relocs)
   pub each_data : EachAt (IsRelocAt false (length o.init) (length o.symbols) f) 8 (layout o).data_relocs (filter (is_of false) o.relocs)
 
-symbols_in_file : (o : ObjectParts) → IsWholeObject o → HasValues o → EachAt (IsSymbolAt (names_of o.symbols) (object_bytes o)) 16 ((layout o).symbols + 16) o.symbols
+symbols_in_file : (o : ObjectParts) → IsWholeObject o → HasValues o → EachAt (IsSymbolAt (names_of o.symbols) (object_bytes o)) 16
+    ((layout o).symbols + 16) o.symbols
 unfolding symbol_table
 symbols_in_file o whole values =
     let before = before_symbols o ++ replicate 16 0 in
     let table = flat_map (symbol_bytes (names_of o.symbols)) o.symbols in
-    let grouped : before ++ (table ++ after_symbols o) ≡ object_bytes o = append_assoc (before_symbols o) (replicate 16 0) (table ++ after_symbols o) ∙ ap (λ (t : List ℕ). before_symbols o ++ t) (sym (append_assoc (replicate 16 0) table (after_symbols o))) ∙ sym (file-symbols o) in
-    let len : length before ≡ (layout o).symbols + 16 = length-append (before_symbols o) (replicate 16 0) ∙ ap (λ (n : ℕ). n + 16) (length-before_symbols o) in
-    subst (λ (f : List ℕ). EachAt (IsSymbolAt (names_of o.symbols) f) 16 ((layout o).symbols + 16) o.symbols) grouped (symbols_written (names_of o.symbols) o.symbols before (after_symbols o) ((layout o).symbols + 16) len (whole_symbols o whole values))
+    let grouped : before ++ (table ++ after_symbols o) ≡ object_bytes o = append_assoc (before_symbols o) (replicate 16 0)
+    (table ++ after_symbols o) ∙ ap (λ (t : List ℕ). before_symbols o ++ t) (sym (append_assoc (replicate 16 0) table (after_symbols o)))
+    ∙ sym (file-symbols o) in
+    let len : length before ≡ (layout o).symbols + 16 =
+    length-append (before_symbols o) (replicate 16 0) ∙ ap (λ (n : ℕ). n + 16) (length-before_symbols o) in
+    subst (λ (f : List ℕ). EachAt (IsSymbolAt (names_of o.symbols) f) 16 ((layout o).symbols + 16) o.symbols) grouped
+    (symbols_written (names_of o.symbols) o.symbols before (after_symbols o) ((layout o).symbols + 16) len (whole_symbols o whole values))
 
-texts_in_file : (o : ObjectParts) → IsWholeObject o → EachAt (IsRelocAt true (length o.text) (length o.symbols) (object_bytes o)) 8 (layout o).text_relocs (filter (is_of true) o.relocs)
+texts_in_file : (o : ObjectParts) → IsWholeObject o → EachAt (IsRelocAt true (length o.text) (length o.symbols) (object_bytes o)) 8
+    (layout o).text_relocs (filter (is_of true) o.relocs)
 unfolding reloc_table
 texts_in_file o whole =
     let at = are_placed o in
     let small : length o.text < 2 ^ 32 = omega (arith, whole.writable.file) in
-    subst (λ (f : List ℕ). EachAt (IsRelocAt true (length o.text) (length o.symbols) f) 8 (layout o).text_relocs (filter (is_of true) o.relocs)) (sym (file-text_relocs o)) (relocs_written true (length o.text) (length o.symbols) small whole.writable.count (filter (is_of true) o.relocs) (before_text_relocs o) (after_text_relocs o) (layout o).text_relocs (length-before_text_relocs o) (whole_texts o whole))
+    subst (λ (f : List ℕ). EachAt (IsRelocAt true (length o.text) (length o.symbols) f) 8 (layout o).text_relocs
+    (filter (is_of true) o.relocs)) (sym (file-text_relocs o)) (relocs_written true (length o.text) (length o.symbols) small
+    whole.writable.count (filter (is_of true) o.relocs) (before_text_relocs o) (after_text_relocs o) (layout o).text_relocs
+    (length-before_text_relocs o) (whole_texts o whole))
 
-datas_in_file : (o : ObjectParts) → IsWholeObject o → EachAt (IsRelocAt false (length o.init) (length o.symbols) (object_bytes o)) 8 (layout o).data_relocs (filter (is_of false) o.relocs)
+datas_in_file : (o : ObjectParts) → IsWholeObject o → EachAt (IsRelocAt false (length o.init) (length o.symbols) (object_bytes o)) 8
+    (layout o).data_relocs (filter (is_of false) o.relocs)
 unfolding reloc_table
 datas_in_file o whole =
     let at = are_placed o in
     let small : length o.init < 2 ^ 32 = omega (arith, whole.writable.file) in
-    subst (λ (f : List ℕ). EachAt (IsRelocAt false (length o.init) (length o.symbols) f) 8 (layout o).data_relocs (filter (is_of false) o.relocs)) (sym (file-data_relocs o)) (relocs_written false (length o.init) (length o.symbols) small whole.writable.count (filter (is_of false) o.relocs) (before_data_relocs o) (after_data_relocs o) (layout o).data_relocs (length-before_data_relocs o) (whole_datas o whole))
+    subst (λ (f : List ℕ). EachAt (IsRelocAt false (length o.init) (length o.symbols) f) 8 (layout o).data_relocs
+    (filter (is_of false) o.relocs)) (sym (file-data_relocs o)) (relocs_written false (length o.init) (length o.symbols) small
+    whole.writable.count (filter (is_of false) o.relocs) (before_data_relocs o) (after_data_relocs o) (layout o).data_relocs
+    (length-before_data_relocs o) (whole_datas o whole))
 
 pub file_is : (o : ObjectParts) → IsWholeObject o → HasValues o → length (object_bytes o) ≤ 33554432 → IsFileOf (object_bytes o) o
 file_is o whole values small =

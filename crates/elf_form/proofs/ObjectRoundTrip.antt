@@ -98,7 +98,8 @@ module _ (f : List ℕ) (o : ObjectParts) (is : IsFileOf f o) (has : HasRoles f 
 
     symbol-read : symbol_at (names_table o.symbols) object_names f y ≡ s
     unfolding symbol_at names_table
-    symbol-read = rw (at.name, at.section, at.value, at.binding) (rw (at.whole.read.read, place-read f o is has s.place, value_read, global_read s.global) refl)
+    symbol-read = rw (at.name, at.section, at.value, at.binding)
+        (rw (at.whole.read.read, place-read f o is has s.place, value_read, global_read s.global) refl)
 
   -- ---- the symbols
 
@@ -113,25 +114,37 @@ module _ (f : List ℕ) (o : ObjectParts) (is : IsFileOf f o) (has : HasRoles f 
   symbol_names-none : symbols_fault Names (table_of f) (strings_of f) object_names f ≡ None
   unfolding symbols_fault
   symbol_names-none =
-      rw (strings-are f o is has, behind-null) (first_some-each _ 16 ((layout o).symbols + 16) o.symbols (each-weaker (IsSymbolAt (names_of o.symbols) f) _ 16 ((layout o).symbols + 16) o.symbols (λ y s at. rw (named y s at) refl) is.each_symbol))
+      rw (strings-are f o is has, behind-null)
+      (first_some-each _ 16 ((layout o).symbols + 16) o.symbols
+      (each-weaker (IsSymbolAt (names_of o.symbols) f) _ 16 ((layout o).symbols + 16) o.symbols
+      (λ y s at. rw (named y s at) refl) is.each_symbol))
 
   globals-none : symbols_fault Globals (table_of f) (strings_of f) object_names f ≡ None
   unfolding symbols_fault
   globals-none =
-      rw (strings-are f o is has, behind-null) (first_some-each _ 16 ((layout o).symbols + 16) o.symbols (each-weaker (IsSymbolAt (names_of o.symbols) f) _ 16 ((layout o).symbols + 16) o.symbols (λ y s at. global-none y s at) is.each_symbol))
+      rw (strings-are f o is has, behind-null)
+      (first_some-each _ 16 ((layout o).symbols + 16) o.symbols
+      (each-weaker (IsSymbolAt (names_of o.symbols) f) _ 16 ((layout o).symbols + 16) o.symbols
+      (λ y s at. global-none y s at) is.each_symbol))
 
   symbols-read : symbols_in (table_of f) (strings_of f) object_names f ≡ o.symbols
   unfolding symbols_in
   symbols-read =
-      rw (strings-are f o is has, behind-null) (listed-each _ _ 16 ((layout o).symbols + 16) o.symbols (each-weaker (IsSymbolAt (names_of o.symbols) f) _ 16 ((layout o).symbols + 16) o.symbols (λ y s at. (listed y s at, symbol-read y s at)) is.each_symbol))
+      rw (strings-are f o is has, behind-null)
+      (listed-each _ _ 16 ((layout o).symbols + 16) o.symbols
+      (each-weaker (IsSymbolAt (names_of o.symbols) f) _ 16 ((layout o).symbols + 16) o.symbols
+      (λ y s at. (listed y s at, symbol-read y s at)) is.each_symbol))
 
   number-read : (i : ℕ) → i < length o.symbols → get_or (numbers object_names f 0 (symbols_of (table_of f))) i 0 ≡ i
   number-read i lt =
-      rw behind-null (numbers-each object_names f 0 16 ((layout o).symbols + 16) o.symbols i (each-weaker (IsSymbolAt (names_of o.symbols) f) _ 16 ((layout o).symbols + 16) o.symbols (λ y s at. listed y s at) is.each_symbol) lt ∙ omega arith)
+      rw behind-null (numbers-each object_names f 0 16 ((layout o).symbols + 16) o.symbols i
+      (each-weaker (IsSymbolAt (names_of o.symbols) f) _ 16 ((layout o).symbols + 16) o.symbols (λ y s at. listed y s at) is.each_symbol) lt
+      ∙ omega arith)
 
   names-none : string_places f ≡ None
   unfolding string_places found
-  names-none = rw (section_names-none f o is has) (rw (names-are f o is) (rw (with-role f o is has role.Symbols) (rw (has_names f o is has) (rw (names-are f o is) symbol_names-none))))
+  names-none = rw (section_names-none f o is has)
+      (rw (names-are f o is) (rw (with-role f o is has role.Symbols) (rw (has_names f o is has) (rw (names-are f o is) symbol_names-none))))
 
   -- ---- one relocation
 
@@ -160,7 +173,8 @@ module _ (f : List ℕ) (o : ObjectParts) (is : IsFileOf f o) (has : HasRoles f 
     is_text = rw (data_target f o is has) refl;
   }
 
-  module _ (s : ℕ) (in_text : Bool) (size : ℕ) (to : IsTarget s in_text size) (small : size < 2 ^ 31) (y : ℕ) (r : Reloc) (at : IsRelocAt in_text size (length o.symbols) f y r) where
+  module _ (s : ℕ) (in_text : Bool) (size : ℕ) (to : IsTarget s in_text size) (small : size < 2 ^ 31) (y : ℕ) (r : Reloc)
+      (at : IsRelocAt in_text size (length o.symbols) f y r) where
     number-is : named_symbol f y ≡ r.symbol + 1
     number-is = rw at.info (number_there r.symbol r.relative)
 
@@ -176,9 +190,12 @@ module _ (f : List ℕ) (o : ObjectParts) (is : IsFileOf f o) (has : HasRoles f 
 
     its-symbol : IsSymbolAt (names_of o.symbols) f (symbol_of (table_of f) f y) (get_or o.symbols r.symbol no_symbol)
     its-symbol =
-        let there : IsSymbolAt (names_of o.symbols) f ((layout o).symbols + 16 + 16 * r.symbol) (get_or o.symbols r.symbol no_symbol) = each-at (IsSymbolAt (names_of o.symbols) f) 16 ((layout o).symbols + 16) o.symbols r.symbol no_symbol at.whole.symbol is.each_symbol in
+        let there : IsSymbolAt (names_of o.symbols) f ((layout o).symbols + 16 + 16 * r.symbol) (get_or o.symbols r.symbol no_symbol) =
+        each-at (IsSymbolAt (names_of o.symbols) f) 16 ((layout o).symbols + 16) o.symbols r.symbol no_symbol
+        at.whole.symbol is.each_symbol in
         let place : (layout o).symbols + 16 + 16 * r.symbol ≡ (layout o).symbols + 16 * (r.symbol + 1) = omega arith in
-        rw (table-is f o is has, number-is) (subst (λ (z : ℕ). IsSymbolAt (names_of o.symbols) f z (get_or o.symbols r.symbol no_symbol)) place there)
+        rw (table-is f o is has, number-is)
+        (subst (λ (z : ℕ). IsSymbolAt (names_of o.symbols) f z (get_or o.symbols r.symbol no_symbol)) place there)
 
     named-none : named_fault (table_of f) object_names f y ≡ None
     named-none = rw has-symbol (symbol-none _ _ its-symbol)
@@ -195,7 +212,18 @@ module _ (f : List ℕ) (o : ObjectParts) (is : IsFileOf f o) (has : HasRoles f 
         let field : r.at + 4 ≤ size = at.whole.field in
         let place : (0 + r.at) % 2 ^ 32 ≡ r.at = omega arith in
         let left : r.symbol + 1 - 1 ≡ r.symbol = omega arith in
-        rw (to.is_text, to.start, at.at, place, number-is, left, number-read r.symbol at.whole.symbol, kind-is, relative_read r.relative, ← at.whole.kind) refl
+        rw (
+          to.is_text,
+          to.start,
+          at.at,
+          place,
+          number-is,
+          left,
+          number-read r.symbol at.whole.symbol,
+          kind-is,
+          relative_read r.relative,
+          ← at.whole.kind,
+        ) refl
 
   -- ---- the relocations
 
@@ -207,21 +235,31 @@ module _ (f : List ℕ) (o : ObjectParts) (is : IsFileOf f o) (has : HasRoles f 
   init_small : length o.init < 2 ^ 31
   init_small = omega (arith, is.fits.memory)
 
-  text_test : (test : RelocTest) (y : ℕ) (r : Reloc) → IsRelocAt true (length o.text) (length o.symbols) f y r → reloc_test test (table_of f) object_names f (entry ((layout o).sections + 200) y) ≡ None
+  text_test : (test : RelocTest) (y : ℕ) (r : Reloc) → IsRelocAt true (length o.text) (length o.symbols) f y r
+      → reloc_test test (table_of f) object_names f (entry ((layout o).sections + 200) y) ≡ None
   text_test Named y r at = named-none ((layout o).sections + 200) true (length o.text) text-target text_small y r at
   text_test Form y r at = form-none' ((layout o).sections + 200) true (length o.text) text-target text_small y r at
 
-  data_test : (test : RelocTest) (y : ℕ) (r : Reloc) → IsRelocAt false (length o.init) (length o.symbols) f y r → reloc_test test (table_of f) object_names f (entry ((layout o).sections + 240) y) ≡ None
+  data_test : (test : RelocTest) (y : ℕ) (r : Reloc) → IsRelocAt false (length o.init) (length o.symbols) f y r
+      → reloc_test test (table_of f) object_names f (entry ((layout o).sections + 240) y) ≡ None
   data_test Named y r at = named-none ((layout o).sections + 240) false (length o.init) data-target init_small y r at
   data_test Form y r at = form-none' ((layout o).sections + 240) false (length o.init) data-target init_small y r at
 
   texts-none : (test : RelocTest) → relocs_fault test (table_of f) object_names f (relocs_of role.Text object_names f) ≡ None
   unfolding relocs_fault
-  texts-none test = rw (text-relocs f o is has) (lowest-each _ _ 8 (layout o).text_relocs (filter (is_of true) o.relocs) (each-weaker (IsRelocAt true (length o.text) (length o.symbols) f) _ 8 (layout o).text_relocs (filter (is_of true) o.relocs) (text_test test) is.each_text))
+  texts-none test =
+      rw (text-relocs f o is has)
+      (lowest-each _ _ 8 (layout o).text_relocs (filter (is_of true) o.relocs)
+      (each-weaker (IsRelocAt true (length o.text) (length o.symbols) f) _ 8 (layout o).text_relocs (filter (is_of true) o.relocs)
+      (text_test test) is.each_text))
 
   datas-none : (test : RelocTest) → relocs_fault test (table_of f) object_names f (relocs_of role.Init object_names f) ≡ None
   unfolding relocs_fault
-  datas-none test = rw (init-relocs f o is has) (lowest-each _ _ 8 (layout o).data_relocs (filter (is_of false) o.relocs) (each-weaker (IsRelocAt false (length o.init) (length o.symbols) f) _ 8 (layout o).data_relocs (filter (is_of false) o.relocs) (data_test test) is.each_data))
+  datas-none test =
+      rw (init-relocs f o is has)
+      (lowest-each _ _ 8 (layout o).data_relocs (filter (is_of false) o.relocs)
+      (each-weaker (IsRelocAt false (length o.init) (length o.symbols) f) _ 8 (layout o).data_relocs (filter (is_of false) o.relocs)
+      (data_test test) is.each_data))
 
   zeros-none : (test : RelocTest) → relocs_fault test (table_of f) object_names f (relocs_of role.Bss object_names f) ≡ None
   unfolding relocs_fault
@@ -238,11 +276,21 @@ module _ (f : List ℕ) (o : ObjectParts) (is : IsFileOf f o) (has : HasRoles f 
   unfolding reloc_form
   relocs-pass = neither_lower _ _ (rw (names-are f o is) (links-none f o is has)) (kept-none Form)
 
-  texts-read : map (reloc_at (numbers object_names f 0 (symbols_of (table_of f))) object_names f) (relocs_of role.Text object_names f) ≡ filter (is_of true) o.relocs
-  texts-read = rw (text-relocs f o is has) (map-each _ _ 8 (layout o).text_relocs (filter (is_of true) o.relocs) (each-weaker (IsRelocAt true (length o.text) (length o.symbols) f) _ 8 (layout o).text_relocs (filter (is_of true) o.relocs) (λ y r at. reloc-read ((layout o).sections + 200) true (length o.text) text-target text_small y r at) is.each_text))
+  texts-read : map (reloc_at (numbers object_names f 0 (symbols_of (table_of f))) object_names f) (relocs_of role.Text object_names f)
+      ≡ filter (is_of true) o.relocs
+  texts-read =
+      rw (text-relocs f o is has)
+      (map-each _ _ 8 (layout o).text_relocs (filter (is_of true) o.relocs)
+      (each-weaker (IsRelocAt true (length o.text) (length o.symbols) f) _ 8 (layout o).text_relocs (filter (is_of true) o.relocs)
+      (λ y r at. reloc-read ((layout o).sections + 200) true (length o.text) text-target text_small y r at) is.each_text))
 
-  datas-read : map (reloc_at (numbers object_names f 0 (symbols_of (table_of f))) object_names f) (relocs_of role.Init object_names f) ≡ filter (is_of false) o.relocs
-  datas-read = rw (init-relocs f o is has) (map-each _ _ 8 (layout o).data_relocs (filter (is_of false) o.relocs) (each-weaker (IsRelocAt false (length o.init) (length o.symbols) f) _ 8 (layout o).data_relocs (filter (is_of false) o.relocs) (λ y r at. reloc-read ((layout o).sections + 240) false (length o.init) data-target init_small y r at) is.each_data))
+  datas-read : map (reloc_at (numbers object_names f 0 (symbols_of (table_of f))) object_names f) (relocs_of role.Init object_names f)
+      ≡ filter (is_of false) o.relocs
+  datas-read =
+      rw (init-relocs f o is has)
+      (map-each _ _ 8 (layout o).data_relocs (filter (is_of false) o.relocs)
+      (each-weaker (IsRelocAt false (length o.init) (length o.symbols) f) _ 8 (layout o).data_relocs (filter (is_of false) o.relocs)
+      (λ y r at. reloc-read ((layout o).sections + 240) false (length o.init) data-target init_small y r at) is.each_data))
 
   -- ---- the whole
 
@@ -250,12 +298,39 @@ module _ (f : List ℕ) (o : ObjectParts) (is : IsFileOf f o) (has : HasRoles f 
   unfolding object_at found
   parts-are ordered =
       let bss : o.bss % 2 ^ 32 ≡ o.bss = omega (arith, is.fits.memory) in
-      rw (names-are f o is) (rw (with-role f o is has role.Text, with-role f o is has role.Sites, sections-are f o is) (rw (text_bytes f o is has, sites_bytes f o is has, joined-init f o is has, joined-bss f o is has, bss, symbols-read, texts-read, datas-read, ← ordered) refl))
+      rw (names-are f o is) (rw (with-role f o is has role.Text, with-role f o is has role.Sites, sections-are f o is)
+      (rw (
+        text_bytes f o is has,
+        sites_bytes f o is has,
+        joined-init f o is has,
+        joined-bss f o is has,
+        bss,
+        symbols-read,
+        texts-read,
+        datas-read,
+        ← ordered,
+      ) refl))
 
   read-as : o.relocs ≡ filter (is_of true) o.relocs ++ filter (is_of false) o.relocs → object_in f ≡ Ok o
   unfolding object_in tested wrong_object
   read-as ordered =
-      rw (not_cut f o is, is.header.magic, is.header.class, is.header.encoding, is.header.version, is.header.second_version, is.header.file_type, is.header.machine, sizes-none f o is has, form-none f o is has, not_compressed f o is has, names-none, symbols-pass, relocs-pass, parts-are ordered) refl
+      rw (
+        not_cut f o is,
+        is.header.magic,
+        is.header.class,
+        is.header.encoding,
+        is.header.version,
+        is.header.second_version,
+        is.header.file_type,
+        is.header.machine,
+        sizes-none f o is has,
+        form-none f o is has,
+        not_compressed f o is has,
+        names-none,
+        symbols-pass,
+        relocs-pass,
+        parts-are ordered,
+      ) refl
 
 -- The same object: its text, data and zeroed bytes, its annotations, its symbols and its relocations in their order.
 pub object_read : (o : ObjectParts) → IsWholeObject o → HasValues o → length (object_bytes o) ≤ 33554432 → object_in (object_bytes o) ≡ Ok o

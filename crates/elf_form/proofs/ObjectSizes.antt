@@ -9,7 +9,8 @@ next-least : (n : ℕ) → n ≤ next n
 unfolding next
 next-least n = omega arith
 
-pub parts_fit : (o : ObjectParts) → length o.text + length o.init + length o.sites + 8 * count_by (is_of true) o.relocs + 8 * count_by (is_of false) o.relocs + 16 * length o.symbols + length (strings_of o.symbols) ≤ (layout o).sections
+pub parts_fit : (o : ObjectParts) → length o.text + length o.init + length o.sites + 8 * count_by (is_of true) o.relocs
+    + 8 * count_by (is_of false) o.relocs + 16 * length o.symbols + length (strings_of o.symbols) ≤ (layout o).sections
 unfolding layout
 parts_fit o = omega (arith, next-least)
 

@@ -16,7 +16,8 @@ past_in : ℕ → List (ℕ × ℕ) → Option ℕ
 past_in size [] = None
 past_in size (p ∷ ps) = cond (nat_lt size (p.0 + p.1)) (Some p.0) (past_in size ps)
 
-one_more : (size : ℕ) (p : ℕ × ℕ) (ps : List (ℕ × ℕ)) → past_in size (p ∷ ps) ≡ option_or (then_some (nat_lt size (p.0 + p.1)) p.0) (past_in size ps)
+one_more : (size : ℕ) (p : ℕ × ℕ) (ps : List (ℕ × ℕ))
+    → past_in size (p ∷ ps) ≡ option_or (then_some (nat_lt size (p.0 + p.1)) p.0) (past_in size ps)
 unfolding past_in
 one_more size p ps = by (nat_lt size (p.0 + p.1)) where
   by : (b : Bool) → cond b (Some p.0) (past_in size ps) ≡ option_or (then_some b p.0) (past_in size ps)
@@ -27,7 +28,8 @@ past_found : (size : ℕ) (ps : List (ℕ × ℕ)) → past_in size ps ≡ optio
 unfolding past_in
 past_found size [] = refl
 past_found size (p ∷ ps) = by (nat_lt size (p.0 + p.1)) (past_found size ps) where
-  by : (b : Bool) → past_in size ps ≡ option_map (λ q. q.0) (find (λ q. nat_lt size (q.0 + q.1)) ps) → cond b (Some p.0) (past_in size ps) ≡ option_map (λ q. q.0) (cond b (Some p) (find (λ q. nat_lt size (q.0 + q.1)) ps))
+  by : (b : Bool) → past_in size ps ≡ option_map (λ q. q.0) (find (λ q. nat_lt size (q.0 + q.1)) ps)
+      → cond b (Some p.0) (past_in size ps) ≡ option_map (λ q. q.0) (cond b (Some p) (find (λ q. nat_lt size (q.0 + q.1)) ps))
   by true e = refl
   by false e = e
 
@@ -39,7 +41,8 @@ past_append : (size : ℕ) (ps qs : List (ℕ × ℕ)) → past_in size (ps ++ q
 unfolding past_in
 past_append size [] qs = refl
 past_append size (p ∷ ps) qs = by (nat_lt size (p.0 + p.1)) (past_append size ps qs) where
-  by : (b : Bool) → past_in size (ps ++ qs) ≡ option_or (past_in size ps) (past_in size qs) → cond b (Some p.0) (past_in size (ps ++ qs)) ≡ option_or (cond b (Some p.0) (past_in size ps)) (past_in size qs)
+  by : (b : Bool) → past_in size (ps ++ qs) ≡ option_or (past_in size ps) (past_in size qs)
+      → cond b (Some p.0) (past_in size (ps ++ qs)) ≡ option_or (cond b (Some p.0) (past_in size ps)) (past_in size qs)
   by true e = refl
   by false e = e
 
@@ -51,24 +54,37 @@ abbrev named_by_section : List ℕ → ℕ → ℕ × ℕ
 named_by_section bytes s = (word32 bytes (s + 16), word32 bytes (s + 20))
 
 module _ (bytes : List ℕ) where
-  headers_past : (hs : List ℕ) → part_begins bytes 4 (find (header_passes bytes) hs) ≡ past_in (length bytes) (map (named_by_header bytes) hs)
+  headers_past : (hs : List ℕ) → part_begins bytes 4 (find (header_passes bytes) hs) ≡ past_in (length bytes)
+      (map (named_by_header bytes) hs)
   unfolding past_in
   headers_past [] = refl
   headers_past (h ∷ hs) = by (header_passes bytes h) (headers_past hs) where
-    by : (b : Bool) → part_begins bytes 4 (find (header_passes bytes) hs) ≡ past_in (length bytes) (map (named_by_header bytes) hs) → part_begins bytes 4 (cond b (Some h) (find (header_passes bytes) hs)) ≡ cond b (Some (word32 bytes (h + 4))) (past_in (length bytes) (map (named_by_header bytes) hs))
+    by : (b : Bool) → part_begins bytes 4 (find (header_passes bytes) hs) ≡ past_in (length bytes) (map (named_by_header bytes) hs)
+        → part_begins bytes 4 (cond b (Some h) (find (header_passes bytes) hs)) ≡ cond b (Some (word32 bytes (h + 4)))
+        (past_in (length bytes) (map (named_by_header bytes) hs))
     by true e = refl
     by false e = e
 
-  sections_past : (ss : List ℕ) → part_begins bytes 16 (find (section_passes bytes) ss) ≡ past_in (length bytes) (map (named_by_section bytes) (filter (has_contents bytes) ss))
+  sections_past : (ss : List ℕ) → part_begins bytes 16 (find (section_passes bytes) ss) ≡ past_in (length bytes)
+      (map (named_by_section bytes) (filter (has_contents bytes) ss))
   unfolding past_in
   sections_past [] = refl
-  sections_past (s ∷ ss) = by (has_contents bytes s) (passes bytes (word32 bytes (s + 16)) (word32 bytes (s + 20))) refl (sections_past ss) where
-    by : (b c : Bool) → passes bytes (word32 bytes (s + 16)) (word32 bytes (s + 20)) ≡ c → part_begins bytes 16 (find (section_passes bytes) ss) ≡ past_in (length bytes) (map (named_by_section bytes) (filter (has_contents bytes) ss)) → part_begins bytes 16 (cond (b && passes bytes (word32 bytes (s + 16)) (word32 bytes (s + 20))) (Some s) (find (section_passes bytes) ss)) ≡ past_in (length bytes) (map (named_by_section bytes) (cond b (s ∷ filter (has_contents bytes) ss) (filter (has_contents bytes) ss)))
-    by false c is e = e
-    by true c is e = both c is where
-      both : (c : Bool) → passes bytes (word32 bytes (s + 16)) (word32 bytes (s + 20)) ≡ c → part_begins bytes 16 (cond (passes bytes (word32 bytes (s + 16)) (word32 bytes (s + 20))) (Some s) (find (section_passes bytes) ss)) ≡ cond (passes bytes (word32 bytes (s + 16)) (word32 bytes (s + 20))) (Some (word32 bytes (s + 16))) (past_in (length bytes) (map (named_by_section bytes) (filter (has_contents bytes) ss)))
-      both true is = rw is refl
-      both false is = rw is e
+  sections_past (s ∷ ss) =
+      by (has_contents bytes s) (passes bytes (word32 bytes (s + 16)) (word32 bytes (s + 20))) refl (sections_past ss) where
+        by : (b c : Bool) → passes bytes (word32 bytes (s + 16)) (word32 bytes (s + 20)) ≡ c
+            → part_begins bytes 16 (find (section_passes bytes) ss) ≡ past_in (length bytes)
+            (map (named_by_section bytes) (filter (has_contents bytes) ss))
+            → part_begins bytes 16 (cond (b && passes bytes (word32 bytes (s + 16)) (word32 bytes (s + 20))) (Some s)
+            (find (section_passes bytes) ss)) ≡ past_in (length bytes) (map (named_by_section bytes)
+            (cond b (s ∷ filter (has_contents bytes) ss) (filter (has_contents bytes) ss)))
+        by false c is e = e
+        by true c is e = both c is where
+          both : (c : Bool) → passes bytes (word32 bytes (s + 16)) (word32 bytes (s + 20)) ≡ c
+              → part_begins bytes 16 (cond (passes bytes (word32 bytes (s + 16)) (word32 bytes (s + 20))) (Some s)
+              (find (section_passes bytes) ss)) ≡ cond (passes bytes (word32 bytes (s + 16)) (word32 bytes (s + 20))) (Some
+              (word32 bytes (s + 16))) (past_in (length bytes) (map (named_by_section bytes) (filter (has_contents bytes) ss)))
+          both true is = rw is refl
+          both false is = rw is e
 
   turns_past : cut_in_turn bytes ≡ past_in (length bytes) (named_parts bytes)
   unfolding cut_in_turn
@@ -79,10 +95,15 @@ module _ (bytes : List ℕ) where
       one_more (length bytes) (header_table bytes, 32 * header_count bytes) _
       ∙ ap (λ (o : Option ℕ). option_or (then_some (passes bytes (header_table bytes) (32 * header_count bytes)) (header_table bytes)) o) (
       one_more (length bytes) (section_table bytes, 40 * section_count bytes) _
-      ∙ ap (λ (o : Option ℕ). option_or (then_some (passes bytes (section_table bytes) (40 * section_count bytes)) (section_table bytes)) o) (
-      past_append (length bytes) (map (named_by_header bytes) (headers bytes)) (map (named_by_section bytes) (filter (has_contents bytes) (sections bytes)))
-      ∙ ap (λ (o : Option ℕ). option_or o (past_in (length bytes) (map (named_by_section bytes) (filter (has_contents bytes) (sections bytes))))) (sym (headers_past (headers bytes)))
-      ∙ ap (λ (o : Option ℕ). option_or (part_begins bytes 4 (find (header_passes bytes) (headers bytes))) o) (sym (sections_past (sections bytes)))))))
+      ∙ ap (λ (o : Option ℕ). option_or (then_some (passes bytes (section_table bytes) (40 * section_count bytes)) (section_table bytes)) o)
+      (
+      past_append (length bytes) (map (named_by_header bytes) (headers bytes))
+      (map (named_by_section bytes) (filter (has_contents bytes) (sections bytes)))
+      ∙ ap (λ (o : Option ℕ). option_or o
+      (past_in (length bytes) (map (named_by_section bytes) (filter (has_contents bytes) (sections bytes)))))
+      (sym (headers_past (headers bytes)))
+      ∙ ap (λ (o : Option ℕ). option_or (part_begins bytes 4 (find (header_passes bytes) (headers bytes))) o)
+      (sym (sections_past (sections bytes)))))))
 
   cut_past : cut bytes ≡ past_in (length bytes) (named_parts bytes)
   unfolding cut
@@ -102,18 +123,29 @@ module _ (size : ℕ) where
         record { index = 0; part = p; there = refl; begins = cc; past = lt; before = λ j q l t. absurd (omega arith) }
     | inr le ↦
         let more = past_so ps at (sym (ap (λ b. cond b (Some p.0) (past_in size ps)) (le-ltb _ _ le)) ∙ e) in
-        record { index = suc more.index; part = more.part; there = more.there; begins = more.begins; past = more.past; before = step le more }
+        record {
+          index = suc more.index;
+          part = more.part;
+          there = more.there;
+          begins = more.begins;
+          past = more.past;
+          before = step le more;
+        }
   ] where
-    step : p.0 + p.1 ≤ size → (more : IsFirstPast size ps at) (j : ℕ) (q : ℕ × ℕ) → j < suc more.index → slice_get (p ∷ ps) j ≡ Some q → q.0 + q.1 ≤ size
-    step le more zero q lt there = let same : p ≡ q = cc in let sum : p.0 + p.1 ≡ q.0 + q.1 = ap (λ (r : ℕ × ℕ). r.0 + r.1) same in omega (arith, sum, le)
+    step : p.0 + p.1 ≤ size → (more : IsFirstPast size ps at) (j : ℕ) (q : ℕ × ℕ) → j < suc more.index
+        → slice_get (p ∷ ps) j ≡ Some q → q.0 + q.1 ≤ size
+    step le more zero q lt there = let same : p ≡ q =
+        cc in let sum : p.0 + p.1 ≡ q.0 + q.1 = ap (λ (r : ℕ × ℕ). r.0 + r.1) same in omega (arith, sum, le)
     step le more (suc j) q lt there = more.before j q (omega arith) there
 
-  so_past : (parts : List (ℕ × ℕ)) (index : ℕ) (part : ℕ × ℕ) → slice_get parts index ≡ Some part → size < part.0 + part.1 → ((j : ℕ) (p : ℕ × ℕ) → j < index → slice_get parts j ≡ Some p → p.0 + p.1 ≤ size) → past_in size parts ≡ Some part.0
+  so_past : (parts : List (ℕ × ℕ)) (index : ℕ) (part : ℕ × ℕ) → slice_get parts index ≡ Some part → size < part.0 + part.1
+      → ((j : ℕ) (p : ℕ × ℕ) → j < index → slice_get parts j ≡ Some p → p.0 + p.1 ≤ size) → past_in size parts ≡ Some part.0
   unfolding past_in
   so_past [] index part there past before = absurd cc
   so_past (p ∷ ps) zero part there past before =
       let same : p ≡ part = cc in
-      ap (λ (q : ℕ × ℕ). cond (nat_lt size (q.0 + q.1)) (Some q.0) (past_in size ps)) same ∙ ap (λ b. cond b (Some part.0) (past_in size ps)) (lt-ltb _ _ past)
+      ap (λ (q : ℕ × ℕ). cond (nat_lt size (q.0 + q.1)) (Some q.0) (past_in size ps)) same
+      ∙ ap (λ b. cond b (Some part.0) (past_in size ps)) (lt-ltb _ _ past)
   so_past (p ∷ ps) (suc k) part there past before =
       ap (λ b. cond b (Some p.0) (past_in size ps)) (le-ltb _ _ (before 0 p (omega arith) refl))
       ∙ so_past ps k part there past (λ j q lt at. before (suc j) q (omega arith) at)
@@ -145,7 +177,8 @@ module _ (size : ℕ) where
 
   past_none : (parts : List (ℕ × ℕ)) (o : Option ℕ) → past_in size parts ≡ o → ((at : ℕ) → IsPast size parts at → ⊥) → o ≡ None
   past_none parts None e never = refl
-  past_none parts (Some at) e never = let h = past_so size parts at e in absurd (never at (h.part, there_contains parts h.index h.part h.there, h.past, sym h.begins))
+  past_none parts (Some at) e never = let h =
+      past_so size parts at e in absurd (never at (h.part, there_contains parts h.index h.part h.there, h.past, sym h.begins))
 
 pub cut_none : (bytes : List ℕ) → (cut bytes ≡ None) ↔ ((at : ℕ) → IsPast (length bytes) (named_parts bytes) at → ⊥)
 cut_none bytes = (

@@ -38,12 +38,22 @@ module _ (bytes : List ℕ) where
   other_list : (xs : List ℕ) → loaded bytes ≡ xs → ((a b : ℕ) → xs ≡ a ∷ b ∷ [] → ⊥) → Finds (Some 44) NotTwo
   other_list xs e never = (((λ t. never t.text t.init (sym e ∙ t.are)), refl), λ k p. omega (arith, p.1))
 
-  two_is : (a b : ℕ) → loaded bytes ≡ a ∷ b ∷ [] → (t : Bool) → (is_executable bytes a && not (is_executable bytes b)) ≡ t → Finds (then_some (not t) 44) NotTwo
+  two_is : (a b : ℕ) → loaded bytes ≡ a ∷ b ∷ [] → (t : Bool) → (is_executable bytes a && not (is_executable bytes b)) ≡ t
+      → Finds (then_some (not t) 44) NotTwo
   two_is a b e true is =
       let both = and_parts (is_executable bytes a) (not (is_executable bytes b)) is in
-      let two : AreTwo bytes = record { text = a; init = b; are = e; executable = eqb-true (word32 bytes (a + 24) % 2) 1 both.0; other = eqb-false (word32 bytes (b + 24) % 2) 1 (not-true (is_executable bytes b) both.1) } in
+      let two : AreTwo bytes = record {
+        text = a;
+        init = b;
+        are = e;
+        executable = eqb-true (word32 bytes (a + 24) % 2) 1 both.0;
+        other = eqb-false (word32 bytes (b + 24) % 2) 1 (not-true (is_executable bytes b) both.1);
+      } in
       λ k p. p.0 two
-  two_is a b e false is = (((λ t. both_ways _ is (test t (same_text a b t (sym e ∙ t.are)) (same_init a b t (sym e ∙ t.are)))), refl), λ k p. omega (arith, p.1)) where
+  two_is a b e false is = (
+    ((λ t. both_ways _ is (test t (same_text a b t (sym e ∙ t.are)) (same_init a b t (sym e ∙ t.are)))), refl),
+    λ k p. omega (arith, p.1),
+  ) where
     same_text : (a b : ℕ) (t : AreTwo bytes) → a ∷ b ∷ [] ≡ t.text ∷ t.init ∷ [] → t.text ≡ a
     same_text a b t h = cc
 
@@ -54,7 +64,8 @@ module _ (bytes : List ℕ) where
     test t x y =
         and_from (is_executable bytes a) (not (is_executable bytes b))
         (subst (λ (h : ℕ). is_executable bytes h ≡ true) x (eq-eqb (word32 bytes (t.text + 24) % 2) 1 t.executable))
-        (not_from_false (is_executable bytes b) (subst (λ (h : ℕ). is_executable bytes h ≡ false) y (ne_eqb (word32 bytes (t.init + 24) % 2) 1 t.other)))
+        (not_from_false (is_executable bytes b)
+        (subst (λ (h : ℕ). is_executable bytes h ≡ false) y (ne_eqb (word32 bytes (t.init + 24) % 2) 1 t.other)))
 
   order_by : (xs : List ℕ) → loaded bytes ≡ xs → Finds (order bytes (found xs)) NotTwo
   unfolding order found
@@ -82,10 +93,13 @@ module _ (bytes : List ℕ) where
 
   section_form_finds : Finds (section_form bytes) (IsBadPart bytes)
   unfolding section_form
-  section_form_finds = finds_as (section_form bytes) PartAt (IsBadPart bytes) part_to part_from (finds_lower (order bytes (loads bytes)) (one_of (sites_sections bytes)) NotTwo (SitesPart bytes) order_finds (sites_finds bytes))
+  section_form_finds = finds_as (section_form bytes) PartAt (IsBadPart bytes) part_to part_from
+      (finds_lower (order bytes (loads bytes)) (one_of (sites_sections bytes)) NotTwo (SitesPart bytes) order_finds (sites_finds bytes))
 
   version_finds : Finds (then_some (not (byte bytes 6 == 1)) 6 or_lower then_some (not (word32 bytes 20 == 1)) 20) (IsBadVersion bytes)
-  version_finds = finds_lower (then_some (not (byte bytes 6 == 1)) 6) (then_some (not (word32 bytes 20 == 1)) 20) (λ k. (byte bytes 6 ≢ 1) × (k ≡ 6)) (λ k. (word32 bytes 20 ≢ 1) × (k ≡ 20)) (finds_field (byte bytes 6) 1 6) (finds_field (word32 bytes 20) 1 20)
+  version_finds = finds_lower (then_some (not (byte bytes 6 == 1)) 6) (then_some (not (word32 bytes 20 == 1)) 20)
+      (λ k. (byte bytes 6 ≢ 1) × (k ≡ 6)) (λ k. (word32 bytes 20 ≢ 1) × (k ≡ 20)) (finds_field (byte bytes 6) 1 6)
+      (finds_field (word32 bytes 20) 1 20)
 
 -- ---- all causes
 
@@ -100,18 +114,27 @@ by_finding bytes o P h = record {
   none = ((λ e. finds_none o P h e), (λ never. none_finds o P h never));
 }
 
-by_cut : (bytes : List ℕ) → Meets bytes (cut bytes) (IsFirstPast (length bytes) (named_parts bytes)) (IsPast (length bytes) (named_parts bytes))
+by_cut : (bytes : List ℕ) → Meets bytes (cut bytes) (IsFirstPast (length bytes) (named_parts bytes))
+    (IsPast (length bytes) (named_parts bytes))
 by_cut bytes = record { exact = cut_exact bytes; none = cut_none bytes }
 
-file_meets : (wanted : ℕ) (other : ElfCause → Option ℕ) (bad : ElfCause → ℕ → Type 0) (bytes : List ℕ) → ((cause : ElfCause) → Finds (other cause) (bad cause)) → (cause : ElfCause)
-    → Meets bytes (wrong_file wanted other bytes cause) (HasPlace (IsBadFile wanted bad bytes) bytes cause) (IsBadFile wanted bad bytes cause)
+file_meets : (wanted : ℕ) (other : ElfCause → Option ℕ) (bad : ElfCause → ℕ → Type 0) (bytes : List ℕ)
+    → ((cause : ElfCause) → Finds (other cause) (bad cause)) → (cause : ElfCause)
+    → Meets bytes (wrong_file wanted other bytes cause) (HasPlace (IsBadFile wanted bad bytes) bytes cause)
+    (IsBadFile wanted bad bytes cause)
 file_meets wanted other bad bytes finds Truncated = by_cut bytes
-file_meets wanted other bad bytes finds Magic = by_finding bytes (wrong_file wanted other bytes Magic) (IsBadFile wanted bad bytes Magic) (finds_field (word32 bytes 0) 1179403647 0)
-file_meets wanted other bad bytes finds Class = by_finding bytes (wrong_file wanted other bytes Class) (IsBadFile wanted bad bytes Class) (finds_field (byte bytes 4) 1 4)
-file_meets wanted other bad bytes finds Encoding = by_finding bytes (wrong_file wanted other bytes Encoding) (IsBadFile wanted bad bytes Encoding) (finds_field (byte bytes 5) 1 5)
-file_meets wanted other bad bytes finds Version = by_finding bytes (wrong_file wanted other bytes Version) (IsBadFile wanted bad bytes Version) (version_finds bytes)
-file_meets wanted other bad bytes finds FileType = by_finding bytes (wrong_file wanted other bytes FileType) (IsBadFile wanted bad bytes FileType) (finds_field (word16 bytes 16) wanted 16)
-file_meets wanted other bad bytes finds Machine = by_finding bytes (wrong_file wanted other bytes Machine) (IsBadFile wanted bad bytes Machine) (finds_field (word16 bytes 18) 3 18)
+file_meets wanted other bad bytes finds Magic =
+    by_finding bytes (wrong_file wanted other bytes Magic) (IsBadFile wanted bad bytes Magic) (finds_field (word32 bytes 0) 1179403647 0)
+file_meets wanted other bad bytes finds Class =
+    by_finding bytes (wrong_file wanted other bytes Class) (IsBadFile wanted bad bytes Class) (finds_field (byte bytes 4) 1 4)
+file_meets wanted other bad bytes finds Encoding =
+    by_finding bytes (wrong_file wanted other bytes Encoding) (IsBadFile wanted bad bytes Encoding) (finds_field (byte bytes 5) 1 5)
+file_meets wanted other bad bytes finds Version =
+    by_finding bytes (wrong_file wanted other bytes Version) (IsBadFile wanted bad bytes Version) (version_finds bytes)
+file_meets wanted other bad bytes finds FileType = by_finding bytes (wrong_file wanted other bytes FileType)
+    (IsBadFile wanted bad bytes FileType) (finds_field (word16 bytes 16) wanted 16)
+file_meets wanted other bad bytes finds Machine =
+    by_finding bytes (wrong_file wanted other bytes Machine) (IsBadFile wanted bad bytes Machine) (finds_field (word16 bytes 18) 3 18)
 file_meets wanted other bad bytes finds Sizes = by_finding bytes (other Sizes) (bad Sizes) (finds Sizes)
 file_meets wanted other bad bytes finds SectionForm = by_finding bytes (other SectionForm) (bad SectionForm) (finds SectionForm)
 file_meets wanted other bad bytes finds Compressed = by_finding bytes (other Compressed) (bad Compressed) (finds Compressed)
@@ -135,21 +158,25 @@ image_finds bytes Compressed = compressed_finds bytes
 image_finds bytes StringPlace = nameless_finds bytes
 image_finds bytes _ = λ k never. never
 
-object_meets : (bytes : List ℕ) (cause : ElfCause) → Meets bytes (wrong_object bytes cause) (HasPlace (IsBadObject bytes) bytes cause) (IsBadObject bytes cause)
+object_meets : (bytes : List ℕ) (cause : ElfCause) → Meets bytes (wrong_object bytes cause) (HasPlace (IsBadObject bytes) bytes cause)
+    (IsBadObject bytes cause)
 unfolding wrong_object
 object_meets bytes cause = file_meets 1 (wrong_in_object bytes) (IsBadInObject bytes) bytes (object_finds bytes) cause
 
-image_meets : (bytes : List ℕ) (cause : ElfCause) → Meets bytes (wrong_image bytes cause) (HasPlace (IsBadImage bytes) bytes cause) (IsBadImage bytes cause)
+image_meets : (bytes : List ℕ) (cause : ElfCause) → Meets bytes (wrong_image bytes cause) (HasPlace (IsBadImage bytes) bytes cause)
+    (IsBadImage bytes cause)
 unfolding wrong_image
 image_meets bytes cause = file_meets 2 (wrong_in_image bytes) (IsBadInImage bytes) bytes (image_finds bytes) cause
 
-pub object_exact : (bytes : List ℕ) (cause : ElfCause) (at : ℕ) → (wrong_object bytes cause ≡ Some at) ↔ HasPlace (IsBadObject bytes) bytes cause at
+pub object_exact : (bytes : List ℕ) (cause : ElfCause) (at : ℕ) → (wrong_object bytes cause ≡ Some at) ↔ HasPlace
+    (IsBadObject bytes) bytes cause at
 object_exact bytes cause at = (object_meets bytes cause).exact at
 
 pub object_none : (bytes : List ℕ) (cause : ElfCause) → (wrong_object bytes cause ≡ None) ↔ ((at : ℕ) → IsBadObject bytes cause at → ⊥)
 object_none bytes cause = (object_meets bytes cause).none
 
-pub image_exact : (bytes : List ℕ) (cause : ElfCause) (at : ℕ) → (wrong_image bytes cause ≡ Some at) ↔ HasPlace (IsBadImage bytes) bytes cause at
+pub image_exact : (bytes : List ℕ) (cause : ElfCause) (at : ℕ)
+    → (wrong_image bytes cause ≡ Some at) ↔ HasPlace (IsBadImage bytes) bytes cause at
 image_exact bytes cause at = (image_meets bytes cause).exact at
 
 pub image_none : (bytes : List ℕ) (cause : ElfCause) → (wrong_image bytes cause ≡ None) ↔ ((at : ℕ) → IsBadImage bytes cause at → ⊥)
@@ -157,34 +184,52 @@ image_none bytes cause = (image_meets bytes cause).none
 
 -- ---- the order
 
-module _ (bytes : List ℕ) (place_of : ElfCause → Option ℕ) (bad_by : ElfCause → ℕ → Type 0) (meets : (c : ElfCause) → Meets bytes (place_of c) (HasPlace bad_by bytes c) (bad_by c)) where
+module _ (bytes : List ℕ) (place_of : ElfCause → Option ℕ) (bad_by : ElfCause → ℕ → Type 0)
+    (meets : (c : ElfCause) → Meets bytes (place_of c) (HasPlace bad_by bytes c) (bad_by c)) where
   first_so : (cs : List ElfCause) (at : ℕ) (cause : ElfCause) → IsFirstOf place_of cs at cause → IsRefused bad_by cs bytes at cause
   first_so cs at cause h =
       let f = first_in_list ElfCause place_of cs at cause h in
-      record { index = f.index; there = f.there; place = ((meets cause).exact at).0 f.is; before = λ j c k lt there. (meets c).none.0 (f.before j c lt there) k }
+      record {
+        index = f.index;
+        there = f.there;
+        place = ((meets cause).exact at).0 f.is;
+        before = λ j c k lt there. (meets c).none.0 (f.before j c lt there) k;
+      }
 
   so_first : (cs : List ElfCause) (at : ℕ) (cause : ElfCause) → IsRefused bad_by cs bytes at cause → IsFirstOf place_of cs at cause
   so_first cs at cause h =
-      list_first ElfCause place_of cs at cause h.index h.there (((meets cause).exact at).1 h.place) (λ j c lt there. (meets c).none.1 (λ k. h.before j c k lt there))
+      list_first ElfCause place_of cs at cause h.index h.there (((meets cause).exact at).1 h.place)
+      (λ j c lt there. (meets c).none.1 (λ k. h.before j c k lt there))
 
   pub refused_exact : (cs : List ElfCause) (at : ℕ) (cause : ElfCause) → IsFirstOf place_of cs at cause ↔ IsRefused bad_by cs bytes at cause
   refused_exact cs at cause = (first_so cs at cause, so_first cs at cause)
 
 -- ---- the readers
 
-pub object_refused : (bytes : List ℕ) (r : Result ObjectParts ElfFault) → Gives (λ o. o) r (object_in bytes) → (at : ℕ) (cause : ElfCause) → r ≡ Err (faults.At at cause) → IsRefusedObject bytes at cause
-object_refused bytes r given at cause e = (refused_exact bytes (wrong_object bytes) (IsBadObject bytes) (object_meets bytes) causes at cause).0 (object_first bytes r given at cause e)
+pub object_refused : (bytes : List ℕ) (r : Result ObjectParts ElfFault) → Gives (λ o. o) r (object_in bytes) → (at : ℕ) (cause : ElfCause)
+    → r ≡ Err (faults.At at cause) → IsRefusedObject bytes at cause
+object_refused bytes r given at cause e =
+    (refused_exact bytes (wrong_object bytes) (IsBadObject bytes) (object_meets bytes) causes at cause).0
+    (object_first bytes r given at cause e)
 
-pub object_refused_only : (bytes : List ℕ) (r : Result ObjectParts ElfFault) → Gives (λ o. o) r (object_in bytes) → (at : ℕ) (cause : ElfCause) → IsRefusedObject bytes at cause → Gives (λ o. o) r (no_object at cause)
+pub object_refused_only : (bytes : List ℕ) (r : Result ObjectParts ElfFault) → Gives (λ o. o) r (object_in bytes)
+    → (at : ℕ) (cause : ElfCause) → IsRefusedObject bytes at cause → Gives (λ o. o) r (no_object at cause)
 object_refused_only bytes r given at cause h =
-    subst (λ (read : Result ObjectParts Fault). Gives (λ o. o) r read) (object_by_first bytes (record { at = at; cause = cause }) ((refused_exact bytes (wrong_object bytes) (IsBadObject bytes) (object_meets bytes) causes at cause).1 h)) given
+    subst (λ (read : Result ObjectParts Fault). Gives (λ o. o) r read)
+    (object_by_first bytes (record { at = at; cause = cause })
+    ((refused_exact bytes (wrong_object bytes) (IsBadObject bytes) (object_meets bytes) causes at cause).1 h)) given
 
-pub image_refused : (bytes : List ℕ) (r : Result ImageParts ElfFault) → Gives (λ image. image) r (image_in bytes) → (at : ℕ) (cause : ElfCause) → r ≡ Err (faults.At at cause) → IsRefusedImage bytes at cause
-image_refused bytes r given at cause e = (refused_exact bytes (wrong_image bytes) (IsBadImage bytes) (image_meets bytes) causes at cause).0 (if_first bytes r given at cause e)
+pub image_refused : (bytes : List ℕ) (r : Result ImageParts ElfFault) → Gives (λ image. image) r (image_in bytes)
+    → (at : ℕ) (cause : ElfCause) → r ≡ Err (faults.At at cause) → IsRefusedImage bytes at cause
+image_refused bytes r given at cause e =
+    (refused_exact bytes (wrong_image bytes) (IsBadImage bytes) (image_meets bytes) causes at cause).0 (if_first bytes r given at cause e)
 
-pub image_refused_only : (bytes : List ℕ) (r : Result ImageParts ElfFault) → Gives (λ image. image) r (image_in bytes) → (at : ℕ) (cause : ElfCause) → IsRefusedImage bytes at cause → Gives (λ image. image) r (no_image at cause)
+pub image_refused_only : (bytes : List ℕ) (r : Result ImageParts ElfFault) → Gives (λ image. image) r (image_in bytes)
+    → (at : ℕ) (cause : ElfCause) → IsRefusedImage bytes at cause → Gives (λ image. image) r (no_image at cause)
 image_refused_only bytes r given at cause h =
-    subst (λ (read : Result ImageParts Fault). Gives (λ image. image) r read) (read_by_first bytes (record { at = at; cause = cause }) ((refused_exact bytes (wrong_image bytes) (IsBadImage bytes) (image_meets bytes) causes at cause).1 h)) given
+    subst (λ (read : Result ImageParts Fault). Gives (λ image. image) r read)
+    (read_by_first bytes (record { at = at; cause = cause })
+    ((refused_exact bytes (wrong_image bytes) (IsBadImage bytes) (image_meets bytes) causes at cause).1 h)) given
 
 -- ---- what is read of a file
 
@@ -194,14 +239,17 @@ failed_object at cause = Err (faults.At at cause)
 abbrev failed_image : ℕ → ElfCause → Result ImageParts ElfFault
 failed_image at cause = Err (faults.At at cause)
 
-pub objects_in_order : (bytes : List ℕ) (at : ℕ) (cause : ElfCause) → (object_in bytes ≡ no_object at cause) ↔ IsRefusedObject bytes at cause
+pub objects_in_order : (bytes : List ℕ) (at : ℕ) (cause : ElfCause)
+    → (object_in bytes ≡ no_object at cause) ↔ IsRefusedObject bytes at cause
 objects_in_order bytes at cause = (
   (λ e. object_refused bytes (failed_object at cause) e at cause refl),
-  (λ h. object_by_first bytes (record { at = at; cause = cause }) ((refused_exact bytes (wrong_object bytes) (IsBadObject bytes) (object_meets bytes) causes at cause).1 h)),
+  (λ h. object_by_first bytes (record { at = at; cause = cause })
+      ((refused_exact bytes (wrong_object bytes) (IsBadObject bytes) (object_meets bytes) causes at cause).1 h)),
 )
 
 pub images_in_order : (bytes : List ℕ) (at : ℕ) (cause : ElfCause) → (image_in bytes ≡ no_image at cause) ↔ IsRefusedImage bytes at cause
 images_in_order bytes at cause = (
   (λ e. image_refused bytes (failed_image at cause) e at cause refl),
-  (λ h. read_by_first bytes (record { at = at; cause = cause }) ((refused_exact bytes (wrong_image bytes) (IsBadImage bytes) (image_meets bytes) causes at cause).1 h)),
+  (λ h. read_by_first bytes (record { at = at; cause = cause })
+      ((refused_exact bytes (wrong_image bytes) (IsBadImage bytes) (image_meets bytes) causes at cause).1 h)),
 )

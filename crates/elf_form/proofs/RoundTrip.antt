@@ -80,14 +80,16 @@ sections-are f p is = rw (is.header.sections, is.header.section_count) refl
 pub not_first : (p : ℕ → Bool) (x : ℕ) (xs : List ℕ) → p x ≡ false → find p xs ≡ None → find p (x ∷ xs) ≡ None
 not_first p x xs not_here none = cond-false _ _ _ not_here ∙ none
 
-none_of_rows : (p : ℕ → Bool) (s : ℕ) → p s ≡ false → p (s + 40) ≡ false → p (s + 40 + 40) ≡ false → p (s + 40 + 40 + 40) ≡ false → p (s + 40 + 40 + 40 + 40) ≡ false → p (s + 40 + 40 + 40 + 40 + 40) ≡ false → find p (six_rows s) ≡ None
+none_of_rows : (p : ℕ → Bool) (s : ℕ) → p s ≡ false → p (s + 40) ≡ false → p (s + 40 + 40) ≡ false → p (s + 40 + 40 + 40) ≡ false
+    → p (s + 40 + 40 + 40 + 40) ≡ false → p (s + 40 + 40 + 40 + 40 + 40) ≡ false → find p (six_rows s) ≡ None
 unfolding six_rows
 none_of_rows p s a b c d e g = rw (a, b, c, d, e, g) refl
 
 kept : (p : ℕ → Bool) (x : ℕ) (xs ys : List ℕ) → p x ≡ true → filter p xs ≡ ys → filter p (x ∷ xs) ≡ x ∷ ys
 kept p x xs ys here rest = cond-true _ _ _ here ∙ ap (λ (r : List ℕ). x ∷ r) rest
 
-fourth_of_rows : (p : ℕ → Bool) (s : ℕ) → p s ≡ false → p (s + 40) ≡ false → p (s + 40 + 40) ≡ false → p (s + 40 + 40 + 40) ≡ false → p (s + 40 + 40 + 40 + 40) ≡ true → p (s + 40 + 40 + 40 + 40 + 40) ≡ false → filter p (six_rows s) ≡ (s + 40 + 40 + 40 + 40) ∷ []
+fourth_of_rows : (p : ℕ → Bool) (s : ℕ) → p s ≡ false → p (s + 40) ≡ false → p (s + 40 + 40) ≡ false → p (s + 40 + 40 + 40) ≡ false
+    → p (s + 40 + 40 + 40 + 40) ≡ true → p (s + 40 + 40 + 40 + 40 + 40) ≡ false → filter p (six_rows s) ≡ (s + 40 + 40 + 40 + 40) ∷ []
 unfolding six_rows
 fourth_of_rows p s a b c d e g = rw (a, b, c, d, e, g) refl
 
@@ -117,19 +119,31 @@ not_cut f p is =
     let at = is.at in
     let s = sections_from p in
     let a : header_cut f ≡ None = none_then (passes f 0 52) 0 (le-ltb (length f) 52 (omega arith)) in
-    let b : header_table_cut f ≡ None = none_then (passes f (header_table f) (32 * header_count f)) (header_table f) (rw (is.header.headers, is.header.programs) (le-ltb (length f) 116 (omega arith))) in
-    let c : section_table_cut f ≡ None = none_then (passes f (section_table f) (40 * section_count f)) (section_table f) (rw (is.header.sections, is.header.section_count) (le-ltb (length f) (s + 240) (omega arith))) in
-    let d : header_part_cut f ≡ None = ap (part_begins f 4) (ap (find (header_passes f)) (headers-are f p is) ∙ not_first (header_passes f) 52 (84 ∷ []) (program_stays f 52 _ _ _ _ _ is.text (omega arith)) (not_first (header_passes f) 84 [] (program_stays f 84 _ _ _ _ _ is.init (omega arith)) refl)) in
+    let b : header_table_cut f ≡ None = none_then (passes f (header_table f) (32 * header_count f)) (header_table f)
+    (rw (is.header.headers, is.header.programs) (le-ltb (length f) 116 (omega arith))) in
+    let c : section_table_cut f ≡ None = none_then (passes f (section_table f) (40 * section_count f)) (section_table f)
+    (rw (is.header.sections, is.header.section_count) (le-ltb (length f) (s + 240) (omega arith))) in
+    let d : header_part_cut f ≡ None =
+    ap (part_begins f 4) (ap (find (header_passes f)) (headers-are f p is) ∙ not_first (header_passes f) 52 (84 ∷ [])
+    (program_stays f 52 _ _ _ _ _ is.text (omega arith))
+    (not_first (header_passes f) 84 [] (program_stays f 84 _ _ _ _ _ is.init (omega arith)) refl)) in
     let e : section_part_cut f ≡ None = ap (part_begins f 16) (ap (find (section_passes f)) (sections-are f p is)
-    ∙ none_of_rows (section_passes f) s (null_stays f _ _ _ _ _ is.row0) (bytes_stay f _ _ _ _ _ is.row1 (omega arith)) (bytes_stay f _ _ _ _ _ is.row2 (omega arith)) (bss_stays f _ _ _ _ _ is.row3) (bytes_stay f _ _ _ _ _ is.row4 (omega arith)) (names_stay f _ _ _ _ _ is.row5 (omega arith))) in
-    cut_met f ∙ neither (header_cut f) (option_or (header_table_cut f) (option_or (section_table_cut f) (option_or (header_part_cut f) (section_part_cut f)))) a (neither (header_table_cut f) (option_or (section_table_cut f) (option_or (header_part_cut f) (section_part_cut f))) b (neither (section_table_cut f) (option_or (header_part_cut f) (section_part_cut f)) c (neither (header_part_cut f) (section_part_cut f) d e)))
+    ∙ none_of_rows (section_passes f) s (null_stays f _ _ _ _ _ is.row0) (bytes_stay f _ _ _ _ _ is.row1 (omega arith))
+    (bytes_stay f _ _ _ _ _ is.row2 (omega arith)) (bss_stays f _ _ _ _ _ is.row3) (bytes_stay f _ _ _ _ _ is.row4 (omega arith))
+    (names_stay f _ _ _ _ _ is.row5 (omega arith))) in
+    cut_met f ∙ neither (header_cut f)
+    (option_or (header_table_cut f) (option_or (section_table_cut f) (option_or (header_part_cut f) (section_part_cut f)))) a
+    (neither (header_table_cut f) (option_or (section_table_cut f) (option_or (header_part_cut f) (section_part_cut f))) b
+    (neither (section_table_cut f) (option_or (header_part_cut f) (section_part_cut f)) c
+    (neither (header_part_cut f) (section_part_cut f) d e)))
 
 -- ---- program headers
 
 loads-are : (f : List ℕ) (p : ImageParts) → IsFileOf f p → loads f ≡ Two 52 84
 unfolding loads found
 loads-are f p is =
-    let both : filter (is_load f) (52 ∷ 84 ∷ []) ≡ 52 ∷ 84 ∷ [] = kept (is_load f) 52 (84 ∷ []) (84 ∷ []) (eq-eqb _ _ is.text.kind) (kept (is_load f) 84 [] [] (eq-eqb _ _ is.init.kind) refl) in
+    let both : filter (is_load f) (52 ∷ 84 ∷ []) ≡ 52 ∷ 84 ∷ [] =
+    kept (is_load f) 52 (84 ∷ []) (84 ∷ []) (eq-eqb _ _ is.text.kind) (kept (is_load f) 84 [] [] (eq-eqb _ _ is.init.kind) refl) in
     ap (λ (xs : List ℕ). found (filter (is_load f) xs)) (headers-are f p is) ∙ ap found both
 
 sizes-none : (f : List ℕ) (p : ImageParts) → IsFileOf f p → sizes f ≡ None
@@ -148,23 +162,32 @@ order-none f p is = rw (is.text.flags, is.init.flags) refl
 
 names-are : (f : List ℕ) (p : ImageParts) → IsFileOf f p → names f ≡ section_names
 unfolding names strings_in contents
-names-are f p is = rw (is.header.names, is.header.section_count, is.header.sections) (rw is.names_at.kind (rw (is.names_at.offset, is.names_at.size) is.names_is))
+names-are f p is = rw (is.header.names, is.header.section_count, is.header.sections)
+    (rw is.names_at.kind (rw (is.names_at.offset, is.names_at.size) is.names_is))
 
 sites-are : (f : List ℕ) (p : ImageParts) → IsFileOf f p → sites_sections f ≡ One (sections_from p + 40 + 40 + 40 + 40)
 unfolding sites_sections found
 sites-are f p is =
     let q = is_sites section_names f in
-    rw (names-are f p is, sections-are f p is) (ap found (fourth_of_rows q (sections_from p) (rw is.row0.kind refl) (rw (is.row1.kind, is.row1.name) refl) (rw (is.row2.kind, is.row2.name) refl) (rw (is.row3.kind, is.row3.name) refl) (rw (is.row4.kind, is.row4.name) refl) (rw (is.row5.kind, is.row5.name) refl)))
+    rw (names-are f p is, sections-are f p is)
+    (ap found (fourth_of_rows q (sections_from p) (rw is.row0.kind refl) (rw (is.row1.kind, is.row1.name) refl)
+    (rw (is.row2.kind, is.row2.name) refl) (rw (is.row3.kind, is.row3.name) refl) (rw (is.row4.kind, is.row4.name) refl)
+    (rw (is.row5.kind, is.row5.name) refl)))
 
 not_compressed : (f : List ℕ) (p : ImageParts) → IsFileOf f p → compressed f ≡ None
 unfolding compressed
 not_compressed f p is =
-    ap (further 8) (ap (find (is_compressed f)) (sections-are f p is) ∙ none_of_rows (is_compressed f) (sections_from p) (rw is.row0.kind refl) (rw (is.row1.kind, is.row1.flags) refl) (rw (is.row2.kind, is.row2.flags) refl) (rw (is.row3.kind, is.row3.flags) refl) (rw (is.row4.kind, is.row4.flags) refl) (rw (is.row5.kind, is.row5.flags) refl))
+    ap (further 8) (ap (find (is_compressed f)) (sections-are f p is) ∙ none_of_rows (is_compressed f) (sections_from p)
+    (rw is.row0.kind refl) (rw (is.row1.kind, is.row1.flags) refl) (rw (is.row2.kind, is.row2.flags) refl)
+    (rw (is.row3.kind, is.row3.flags) refl) (rw (is.row4.kind, is.row4.flags) refl) (rw (is.row5.kind, is.row5.flags) refl))
 
 all_named : (f : List ℕ) (p : ImageParts) → IsFileOf f p → nameless f ≡ None
 unfolding nameless
 all_named f p is =
-    rw (names-are f p is, sections-are f p is) (none_of_rows (is_nameless section_names f) (sections_from p) (rw is.row0.kind refl) (rw (is.row1.kind, is.row1.name) refl) (rw (is.row2.kind, is.row2.name) refl) (rw (is.row3.kind, is.row3.name) refl) (rw (is.row4.kind, is.row4.name) refl) (rw (is.row5.kind, is.row5.name) refl))
+    rw (names-are f p is, sections-are f p is)
+    (none_of_rows (is_nameless section_names f) (sections_from p) (rw is.row0.kind refl) (rw (is.row1.kind, is.row1.name) refl)
+    (rw (is.row2.kind, is.row2.name) refl) (rw (is.row3.kind, is.row3.name) refl) (rw (is.row4.kind, is.row4.name) refl)
+    (rw (is.row5.kind, is.row5.name) refl))
 
 form-none : (f : List ℕ) (p : ImageParts) → IsFileOf f p → section_form f ≡ None
 unfolding section_form
@@ -172,16 +195,44 @@ form-none f p is = rw (loads-are f p is, sites-are f p is, order-none f p is) re
 
 -- ---- the whole
 
-tests-pass : (f : List ℕ) (p : ImageParts) → IsFileOf f p → tested (wrong_image f) causes (image_at f) ≡ Ok (parts_at f 52 84 (sections_from p + 40 + 40 + 40 + 40))
+tests-pass : (f : List ℕ) (p : ImageParts) → IsFileOf f p → tested (wrong_image f) causes (image_at f) ≡ Ok
+    (parts_at f 52 84 (sections_from p + 40 + 40 + 40 + 40))
 unfolding tested wrong_image
 tests-pass f p is =
-    rw (not_cut f p is, is.header.magic, is.header.class, is.header.encoding, is.header.version, is.header.second_version, is.header.file_type, is.header.machine, sizes-none f p is, form-none f p is, not_compressed f p is, all_named f p is, loads-are f p is, sites-are f p is) refl
+    rw (
+      not_cut f p is,
+      is.header.magic,
+      is.header.class,
+      is.header.encoding,
+      is.header.version,
+      is.header.second_version,
+      is.header.file_type,
+      is.header.machine,
+      sizes-none f p is,
+      form-none f p is,
+      not_compressed f p is,
+      all_named f p is,
+      loads-are f p is,
+      sites-are f p is,
+    ) refl
 
 parts-are : (f : List ℕ) (p : ImageParts) → IsFileOf f p → parts_at f 52 84 (sections_from p + 40 + 40 + 40 + 40) ≡ p
 unfolding parts_at contents
 parts-are f p is =
     let left : length p.init + p.bss - length p.init ≡ p.bss = omega arith in
-    rw (is.text.offset, is.text.size, is.init.offset, is.init.size, is.init.memory, is.header.entry, is.text.address, is.init.address, is.row4.kind, is.row4.offset, is.row4.size) (rw (is.text_is, is.init_is, is.sites_is, left) refl)
+    rw (
+      is.text.offset,
+      is.text.size,
+      is.init.offset,
+      is.init.size,
+      is.init.memory,
+      is.header.entry,
+      is.text.address,
+      is.init.address,
+      is.row4.kind,
+      is.row4.offset,
+      is.row4.size,
+    ) (rw (is.text_is, is.init_is, is.sites_is, left) refl)
 
 pub read_again : (p : ImageParts) → IsWritableImage p → HasLongs p → length (image_bytes p) ≤ 33554432 → image_in (image_bytes p) ≡ Ok p
 unfolding image_in

@@ -26,14 +26,16 @@ word32-front v rest lt = from_le_bytes-to_le_bytes_4 v lt
 -- the number k of a row
 pub row_word : (ns after : List ℕ) (k : ℕ) → k < length ns → get_or ns k 0 < 2 ^ 32 → word32 (longs ns ++ after) (4 * k) ≡ get_or ns k 0
 row_word [] after k lt small = absurd (omega arith)
-row_word (n ∷ ns) after zero lt small = ap (λ (x : List ℕ). word32 x 0) (append_assoc (to_le_bytes w32 n) (longs ns) after) ∙ word32-front n (longs ns ++ after) small
+row_word (n ∷ ns) after zero lt small =
+    ap (λ (x : List ℕ). word32 x 0) (append_assoc (to_le_bytes w32 n) (longs ns) after) ∙ word32-front n (longs ns ++ after) small
 row_word (n ∷ ns) after (suc k) lt small =
     ap (λ (x : List ℕ). word32 x (4 * suc k)) (append_assoc (to_le_bytes w32 n) (longs ns) after)
     ∙ word32-behind (to_le_bytes w32 n) (longs ns ++ after) (4 * suc k) (4 * k) (omega arith)
     ∙ row_word ns after k (omega arith) small
 
 -- the number k of a row that stands after other bytes
-pub row_behind : (before ns after : List ℕ) (k at : ℕ) → k < length ns → get_or ns k 0 < 2 ^ 32 → length before + 4 * k ≡ at → word32 (before ++ (longs ns ++ after)) at ≡ get_or ns k 0
+pub row_behind : (before ns after : List ℕ) (k at : ℕ) → k < length ns → get_or ns k 0 < 2 ^ 32 → length before + 4 * k ≡ at
+    → word32 (before ++ (longs ns ++ after)) at ≡ get_or ns k 0
 row_behind before ns after k at lt small e = word32-behind before (longs ns ++ after) at (4 * k) e ∙ row_word ns after k lt small
 
 pub length-longs : (ns : List ℕ) → length (longs ns) ≡ 4 * length ns

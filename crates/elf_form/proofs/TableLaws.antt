@@ -33,7 +33,8 @@ entries-start at k n =
 pub find-here : (p : ℕ → Bool) (at k n i : ℕ) → i < n → p (at + k * i) ≡ true → find p (entries (at + k * i) k (n - i)) ≡ Some (at + k * i)
 find-here p at k n i lt here = ap (find p) (entries-more at k n i lt) ∙ cond-true _ _ _ here
 
-pub find-next : (p : ℕ → Bool) (at k n i : ℕ) → i < n → p (at + k * i) ≡ false → find p (entries (at + k * i) k (n - i)) ≡ find p (entries (at + k * (i + 1)) k (n - (i + 1)))
+pub find-next : (p : ℕ → Bool) (at k n i : ℕ) → i < n → p (at + k * i) ≡ false → find p (entries (at + k * i) k (n - i)) ≡ find p
+    (entries (at + k * (i + 1)) k (n - (i + 1)))
 find-next p at k n i lt not_here = ap (find p) (entries-more at k n i lt) ∙ cond-false _ _ _ not_here
 
 pub find-end : (p : ℕ → Bool) (at k n i : ℕ) → n ≤ i → find p (entries (at + k * i) k (n - i)) ≡ None
@@ -73,10 +74,13 @@ found_on-all (a ∷ []) = refl
 found_on-all (a ∷ b ∷ []) = refl
 found_on-all (a ∷ b ∷ c ∷ rest) = more_stays a b rest
 
-pub found-here : (p : ℕ → Bool) (f : Found) (at k n i : ℕ) → i < n → p (at + k * i) ≡ true → found_on f (filter p (entries (at + k * i) k (n - i))) ≡ found_on (with_one f (at + k * i)) (filter p (entries (at + k * (i + 1)) k (n - (i + 1))))
+pub found-here : (p : ℕ → Bool) (f : Found) (at k n i : ℕ) → i < n → p (at + k * i) ≡ true
+    → found_on f (filter p (entries (at + k * i) k (n - i))) ≡ found_on (with_one f (at + k * i))
+    (filter p (entries (at + k * (i + 1)) k (n - (i + 1))))
 found-here p f at k n i lt here = rw (entries-more at k n i lt) (ap (found_on f) (cond-true _ _ _ here))
 
-pub found-next : (p : ℕ → Bool) (f : Found) (at k n i : ℕ) → i < n → p (at + k * i) ≡ false → found_on f (filter p (entries (at + k * i) k (n - i))) ≡ found_on f (filter p (entries (at + k * (i + 1)) k (n - (i + 1))))
+pub found-next : (p : ℕ → Bool) (f : Found) (at k n i : ℕ) → i < n → p (at + k * i) ≡ false
+    → found_on f (filter p (entries (at + k * i) k (n - i))) ≡ found_on f (filter p (entries (at + k * (i + 1)) k (n - (i + 1))))
 found-next p f at k n i lt not_here = rw (entries-more at k n i lt) (ap (found_on f) (cond-false _ _ _ not_here))
 
 pub found-end : (p : ℕ → Bool) (f : Found) (at k n i : ℕ) → n ≤ i → found_on f (filter p (entries (at + k * i) k (n - i))) ≡ f
@@ -90,13 +94,17 @@ AllFound-with P (More a b) at all here = all
 
 -- ---- the first place that an entry gives
 
-pub first_some-here : (f : ℕ → Option ℕ) (at k n i place : ℕ) → i < n → f (at + k * i) ≡ Some place → first_some f (entries (at + k * i) k (n - i)) ≡ Some place
+pub first_some-here : (f : ℕ → Option ℕ) (at k n i place : ℕ) → i < n → f (at + k * i) ≡ Some place
+    → first_some f (entries (at + k * i) k (n - i)) ≡ Some place
 unfolding first_some
-first_some-here f at k n i place lt is = ap (first_some f) (entries-more at k n i lt) ∙ ap (λ o. option_or o (first_some f (entries (at + k * (i + 1)) k (n - (i + 1))))) is
+first_some-here f at k n i place lt is =
+    ap (first_some f) (entries-more at k n i lt) ∙ ap (λ o. option_or o (first_some f (entries (at + k * (i + 1)) k (n - (i + 1))))) is
 
-pub first_some-next : (f : ℕ → Option ℕ) (at k n i : ℕ) → i < n → f (at + k * i) ≡ None → first_some f (entries (at + k * i) k (n - i)) ≡ first_some f (entries (at + k * (i + 1)) k (n - (i + 1)))
+pub first_some-next : (f : ℕ → Option ℕ) (at k n i : ℕ) → i < n → f (at + k * i) ≡ None
+    → first_some f (entries (at + k * i) k (n - i)) ≡ first_some f (entries (at + k * (i + 1)) k (n - (i + 1)))
 unfolding first_some
-first_some-next f at k n i lt is = ap (first_some f) (entries-more at k n i lt) ∙ ap (λ o. option_or o (first_some f (entries (at + k * (i + 1)) k (n - (i + 1))))) is
+first_some-next f at k n i lt is =
+    ap (first_some f) (entries-more at k n i lt) ∙ ap (λ o. option_or o (first_some f (entries (at + k * (i + 1)) k (n - (i + 1))))) is
 
 pub first_some-end : (f : ℕ → Option ℕ) (at k n i : ℕ) → n ≤ i → first_some f (entries (at + k * i) k (n - i)) ≡ None
 unfolding first_some
@@ -104,10 +112,12 @@ first_some-end f at k n i le = ap (first_some f) (entries-end at k n i le)
 
 -- ---- filtered entries
 
-pub filter-here : (p : ℕ → Bool) (at k n i : ℕ) → i < n → p (at + k * i) ≡ true → filter p (entries (at + k * i) k (n - i)) ≡ (at + k * i) ∷ filter p (entries (at + k * (i + 1)) k (n - (i + 1)))
+pub filter-here : (p : ℕ → Bool) (at k n i : ℕ) → i < n → p (at + k * i) ≡ true
+    → filter p (entries (at + k * i) k (n - i)) ≡ (at + k * i) ∷ filter p (entries (at + k * (i + 1)) k (n - (i + 1)))
 filter-here p at k n i lt here = rw (entries-more at k n i lt) (cond-true _ _ _ here)
 
-pub filter-next : (p : ℕ → Bool) (at k n i : ℕ) → i < n → p (at + k * i) ≡ false → filter p (entries (at + k * i) k (n - i)) ≡ filter p (entries (at + k * (i + 1)) k (n - (i + 1)))
+pub filter-next : (p : ℕ → Bool) (at k n i : ℕ) → i < n → p (at + k * i) ≡ false → filter p (entries (at + k * i) k (n - i)) ≡ filter p
+    (entries (at + k * (i + 1)) k (n - (i + 1)))
 filter-next p at k n i lt not_here = rw (entries-more at k n i lt) (cond-false _ _ _ not_here)
 
 pub filter-end : (p : ℕ → Bool) (at k n i : ℕ) → n ≤ i → filter p (entries (at + k * i) k (n - i)) ≡ []

@@ -20,7 +20,8 @@ test-err c (Some at) e h =
     let same = err_is (Unit {0}) (record { at = at; cause = c }) e h in
     (ap (λ (f : Fault). Some f.at) same, sym (ap (λ (f : Fault). f.cause) same))
 
-bind_err : (A B : Type 0) (r : Result A Fault) (f : A → Result B Fault) (e : Fault) → (r >>= f) ≡ failed B e → (r ≡ failed A e) ⊎ ((x : A) × (r ≡ Ok x) × (f x ≡ failed B e))
+bind_err : (A B : Type 0) (r : Result A Fault) (f : A → Result B Fault) (e : Fault) → (r >>= f) ≡ failed B e → (r ≡ failed A e)
+    ⊎ ((x : A) × (r ≡ Ok x) × (f x ≡ failed B e))
 bind_err A B (Ok x) f e h = inr (x, refl, h)
 bind_err A B (Err d) f e h = inl (ap (failed A) (err_is B d e h))
 
@@ -42,8 +43,10 @@ module _ (A : Type 0) (wrong : ElfCause → Option ℕ) where
   unfolding tested
   first_tested [] x e h = absurd h
   first_tested (c ∷ cs) x e (inl (here, same)) =
-      ap (λ (o : Option ℕ). test c o >>= λ _. tested wrong cs x) here ∙ ap (λ (d : ElfCause). failed A (record { at = e.at; cause = d })) (sym same)
-  first_tested (c ∷ cs) x e (inr (none, later)) = ap (λ (o : Option ℕ). test c o >>= λ _. tested wrong cs x) none ∙ first_tested cs x e later
+      ap (λ (o : Option ℕ). test c o >>= λ _. tested wrong cs x) here
+      ∙ ap (λ (d : ElfCause). failed A (record { at = e.at; cause = d })) (sym same)
+  first_tested (c ∷ cs) x e (inr (none, later)) =
+      ap (λ (o : Option ℕ). test c o >>= λ _. tested wrong cs x) none ∙ first_tested cs x e later
 
   abbrev AllNone : List ElfCause → Type 0
   AllNone [] = Unit {0}
@@ -85,20 +88,29 @@ module _ (A : Type 0) (wrong : ElfCause → Option ℕ) where
   unfolding tested
   tested-append [] ds x = refl
   tested-append (c ∷ cs) ds x = by (wrong c) (tested-append cs ds x) where
-    by : (o : Option ℕ) → (tested wrong cs (tt {0}) >>= λ _. tested wrong ds x) ≡ tested wrong (cs ++ ds) x → ((test c o >>= λ _. tested wrong cs (tt {0})) >>= λ _. tested wrong ds x) ≡ (test c o >>= λ _. tested wrong (cs ++ ds) x)
+    by : (o : Option ℕ) → (tested wrong cs (tt {0}) >>= λ _. tested wrong ds x) ≡ tested wrong (cs ++ ds) x
+        → ((test c o >>= λ _. tested wrong cs (tt {0})) >>= λ _. tested wrong ds x) ≡ (test c o >>= λ _. tested wrong (cs ++ ds) x)
     by None e = e
     by (Some at) e = refl
 
 -- the tests of a file, of which those of the header come first
 module _ (A : Type 0) (wanted : ℕ) (inner : ElfCause → Option ℕ) (bytes : List ℕ) (x : A) where
-  pub cut_first : (at : ℕ) → Some at ≡ cut bytes → tested (wrong_file wanted inner bytes) causes x ≡ failed A (record { at = at; cause = Truncated })
+  pub cut_first : (at : ℕ) → Some at ≡ cut bytes → tested (wrong_file wanted inner bytes) causes x ≡ failed A
+      (record { at = at; cause = Truncated })
   unfolding tested
-  cut_first at is = sym (ap (λ (o : Option ℕ). test Truncated o >>= λ _. tested (wrong_file wanted inner bytes) (header_causes ++ Sizes ∷ section_causes) x) is)
+  cut_first at is =
+      sym (ap (λ (o : Option ℕ). test Truncated o >>= λ _. tested (wrong_file wanted inner bytes)
+      (header_causes ++ Sizes ∷ section_causes) x) is)
 
-  identified_first : (later : List ElfCause) → and_then (identified wanted bytes) (tested (wrong_file wanted inner bytes) later x) ≡ tested (wrong_file wanted inner bytes) (header_causes ++ later) x
+  identified_first : (later : List ElfCause) → and_then (identified wanted bytes) (tested (wrong_file wanted inner bytes) later x) ≡ tested
+      (wrong_file wanted inner bytes) (header_causes ++ later) x
   unfolding identified tested
   identified_first later = tested-append A (wrong_file wanted inner bytes) header_causes later x
 
-  pub whole_first : None ≡ cut bytes → and_then (identified wanted bytes) (tested (wrong_file wanted inner bytes) (Sizes ∷ section_causes) x) ≡ tested (wrong_file wanted inner bytes) causes x
+  pub whole_first : None ≡ cut bytes
+      → and_then (identified wanted bytes) (tested (wrong_file wanted inner bytes) (Sizes ∷ section_causes) x) ≡ tested
+      (wrong_file wanted inner bytes) causes x
   unfolding tested
-  whole_first is = identified_first (Sizes ∷ section_causes) ∙ ap (λ (o : Option ℕ). test Truncated o >>= λ _. tested (wrong_file wanted inner bytes) (header_causes ++ Sizes ∷ section_causes) x) is
+  whole_first is = identified_first (Sizes ∷ section_causes)
+      ∙ ap (λ (o : Option ℕ). test Truncated o >>= λ _. tested (wrong_file wanted inner bytes) (header_causes ++ Sizes ∷ section_causes) x)
+      is

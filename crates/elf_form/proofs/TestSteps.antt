@@ -7,7 +7,8 @@ use Rattle.elf_form.specs.Faults.{Fault, test, ◌>>=◌}
 use Rattle.elf_form.specs.Answers.{Fails, Gives}
 use Rattle.elf_form.proofs.FormLaws.{tested_none}
 
-pub gives_err : {X Y : Type 0} (view : X → Y) (r : Result X ElfFault) (e : ElfFault) (wanted : Result Y Fault) → IsErrAnd r (λ d. d ≡ e) → Fails e wanted → Gives view r wanted
+pub gives_err : {X Y : Type 0} (view : X → Y) (r : Result X ElfFault) (e : ElfFault) (wanted : Result Y Fault) → IsErrAnd r (λ d. d ≡ e)
+    → Fails e wanted → Gives view r wanted
 gives_err view (Ok x) e wanted is fails = absurd is
 gives_err view (Err d) e wanted is fails = subst (λ (f : ElfFault). Fails f wanted) (sym is) fails
 
@@ -15,15 +16,20 @@ pub fails_first : {A B : Type 0} (e : ElfFault) (r : Result A Fault) (later : Re
 fails_first faults.Memory r later h = tt
 fails_first {A} {B} (faults.At at cause) r later h = ap (λ (s : Result A Fault). s >>= λ _. later) h
 
-pub test_fails : {X Y : Type 0} (view : X → Y) (r : Result X ElfFault) (e : ElfFault) (cause : ElfCause) (found wanted : Option ℕ) (later : Result Y Fault)
+pub test_fails : {X Y : Type 0} (view : X → Y) (r : Result X ElfFault) (e : ElfFault) (cause : ElfCause) (found wanted : Option ℕ)
+    (later : Result Y Fault)
     → IsErrAnd r (λ d. d ≡ e) → Fails e (test cause found) → found ≡ wanted → Gives view r (test cause wanted >>= λ _. later)
 test_fails view r e cause found wanted later is fails same =
-    gives_err view r e (test cause wanted >>= λ _. later) is (fails_first e (test cause wanted) later (subst (λ (o : Option ℕ). Fails e (test cause o)) same fails))
+    gives_err view r e (test cause wanted >>= λ _. later) is
+    (fails_first e (test cause wanted) later (subst (λ (o : Option ℕ). Fails e (test cause o)) same fails))
 
-pub test_passes : {X Y : Type 0} (view : X → Y) (r : Result X ElfFault) (cause : ElfCause) (found wanted : Option ℕ) (later : Result Y Fault)
+pub test_passes : {X Y : Type 0} (view : X → Y) (r : Result X ElfFault) (cause : ElfCause) (found wanted : Option ℕ)
+    (later : Result Y Fault)
     → test cause found ≡ Ok tt → found ≡ wanted → Gives view r later → Gives view r (test cause wanted >>= λ _. later)
 test_passes view r cause found wanted later passed same gives =
     subst (λ (o : Option ℕ). Gives view r (test cause o >>= λ _. later)) (sym (tested_none cause found passed) ∙ same) gives
 
-pub passes_first : {X A Y : Type 0} (view : X → Y) (r : Result X ElfFault) (first : Result A Fault) (x : A) (later : Result Y Fault) → first ≡ Ok x → Gives view r later → Gives view r (first >>= λ _. later)
-passes_first {X} {A} {Y} view r first x later passed gives = subst (λ (s : Result A Fault). Gives view r (s >>= λ _. later)) (sym passed) gives
+pub passes_first : {X A Y : Type 0} (view : X → Y) (r : Result X ElfFault) (first : Result A Fault) (x : A) (later : Result Y Fault)
+    → first ≡ Ok x → Gives view r later → Gives view r (first >>= λ _. later)
+passes_first {X} {A} {Y} view r first x later passed gives =
+    subst (λ (s : Result A Fault). Gives view r (s >>= λ _. later)) (sym passed) gives

@@ -38,7 +38,8 @@ pub record IsSymbolAt (names : List (List ℕ)) (f : List ℕ) (y : ℕ) (s : Sy
 word16-behind : (a b : List ℕ) (n k : ℕ) → length a + k ≡ n → word16 (a ++ b) n ≡ word16 b k
 unfolding word16 part
 word16-behind a b n k e =
-    let split : drop n (a ++ b) ≡ drop k b = ap (λ (m : ℕ). drop m (a ++ b)) (sym e) ∙ sym (drop-drop k (length a) (a ++ b)) ∙ ap (drop k) (drop_at a b (length a) refl) in
+    let split : drop n (a ++ b) ≡ drop k b =
+    ap (λ (m : ℕ). drop m (a ++ b)) (sym e) ∙ sym (drop-drop k (length a) (a ++ b)) ∙ ap (drop k) (drop_at a b (length a) refl) in
     ap (λ (x : List ℕ). from_le_bytes w16 (take 2 x)) split
 
 byte-behind : (a b : List ℕ) (n k : ℕ) → length a + k ≡ n → byte (a ++ b) n ≡ byte b k
@@ -60,23 +61,29 @@ section_there : (names : List (List ℕ)) (s : Symbol) (after : List ℕ) → wo
 unfolding word16 part symbol_bytes
 section_there names s after = number_there s.place after
 
-symbol_there : (names : List (List ℕ)) (before after : List ℕ) (s : Symbol) (y : ℕ) → length before ≡ y → IsWholeSymbol names s → IsSymbolAt names (before ++ (symbol_bytes names s ++ after)) y s
+symbol_there : (names : List (List ℕ)) (before after : List ℕ) (s : Symbol) (y : ℕ) → length before ≡ y → IsWholeSymbol names s
+    → IsSymbolAt names (before ++ (symbol_bytes names s ++ after)) y s
 unfolding symbol_bytes
 symbol_there names before after s y len whole =
     let row = name_place names s.name ∷ s.value ∷ 0 ∷ [] in
     let last = (cond s.global 16 0) ∷ 0 ∷ halves (place_number s.place ∷ []) in
-    let grouped : before ++ (longs row ++ (last ++ after)) ≡ before ++ ((longs row ++ last) ++ after) = ap (λ (t : List ℕ). before ++ t) (sym (append_assoc (longs row) last after)) in
+    let grouped : before ++ (longs row ++ (last ++ after)) ≡ before ++ ((longs row ++ last) ++ after) =
+    ap (λ (t : List ℕ). before ++ t) (sym (append_assoc (longs row) last after)) in
     record {
-      name = ap (λ (f : List ℕ). word32 f y) (sym grouped) ∙ row_behind before row (last ++ after) 0 y (omega arith) whole.place (omega arith);
-      value = ap (λ (f : List ℕ). word32 f (y + 4)) (sym grouped) ∙ row_behind before row (last ++ after) 1 (y + 4) (omega arith) whole.value (omega arith);
+      name =
+          ap (λ (f : List ℕ). word32 f y) (sym grouped) ∙ row_behind before row (last ++ after) 0 y (omega arith) whole.place (omega arith);
+      value = ap (λ (f : List ℕ). word32 f (y + 4)) (sym grouped) ∙ row_behind before row (last ++ after) 1 (y + 4) (omega arith)
+          whole.value (omega arith);
       binding = byte-behind before (symbol_bytes names s ++ after) (y + 12) 12 (omega arith) ∙ binding_there names s after;
       section = word16-behind before (symbol_bytes names s ++ after) (y + 14) 14 (omega arith) ∙ section_there names s after;
       whole = whole;
     }
 
-pub symbols_written : (names : List (List ℕ)) (xs : List Symbol) (before after : List ℕ) (at : ℕ) → length before ≡ at → AllByRecursion (IsWholeSymbol names) xs → EachAt (IsSymbolAt names (before ++ (flat_map (symbol_bytes names) xs ++ after))) 16 at xs
+pub symbols_written : (names : List (List ℕ)) (xs : List Symbol) (before after : List ℕ) (at : ℕ) → length before ≡ at
+    → AllByRecursion (IsWholeSymbol names) xs → EachAt (IsSymbolAt names (before ++ (flat_map (symbol_bytes names) xs ++ after))) 16 at xs
 symbols_written names xs before after at len all =
-    each-written (symbol_bytes names) 16 (IsWholeSymbol names) (λ f y s. IsSymbolAt names f y s) (length-symbol names) (symbol_there names) xs before after at len all
+    each-written (symbol_bytes names) 16 (IsWholeSymbol names) (λ f y s. IsSymbolAt names f y s) (length-symbol names) (symbol_there names)
+    xs before after at len all
 
 -- ---- relocations
 
@@ -96,7 +103,8 @@ kind_small true = omega arith
 kind_small false = omega arith
 
 module _ (in_text : Bool) (size count : ℕ) (small : size < 2 ^ 32) (few : count ≤ 65536) where
-  reloc_there : (before after : List ℕ) (r : Reloc) (y : ℕ) → length before ≡ y → IsWholeReloc in_text size count r → IsRelocAt in_text size count (before ++ (reloc_bytes r ++ after)) y r
+  reloc_there : (before after : List ℕ) (r : Reloc) (y : ℕ) → length before ≡ y → IsWholeReloc in_text size count r
+      → IsRelocAt in_text size count (before ++ (reloc_bytes r ++ after)) y r
   unfolding reloc_bytes
   reloc_there before after r y len whole =
       let row = r.at ∷ (256 * (r.symbol + 1) + cond r.relative 2 1) ∷ [] in
@@ -106,6 +114,9 @@ module _ (in_text : Bool) (size count : ℕ) (small : size < 2 ^ 32) (few : coun
         whole = whole;
       }
 
-  pub relocs_written : (xs : List Reloc) (before after : List ℕ) (at : ℕ) → length before ≡ at → AllByRecursion (IsWholeReloc in_text size count) xs → EachAt (IsRelocAt in_text size count (before ++ (flat_map reloc_bytes xs ++ after))) 8 at xs
+  pub relocs_written : (xs : List Reloc) (before after : List ℕ) (at : ℕ) → length before ≡ at
+      → AllByRecursion (IsWholeReloc in_text size count) xs
+      → EachAt (IsRelocAt in_text size count (before ++ (flat_map reloc_bytes xs ++ after))) 8 at xs
   relocs_written xs before after at len all =
-      each-written reloc_bytes 8 (IsWholeReloc in_text size count) (λ f y r. IsRelocAt in_text size count f y r) length-reloc reloc_there xs before after at len all
+      each-written reloc_bytes 8 (IsWholeReloc in_text size count) (λ f y r. IsRelocAt in_text size count f y r) length-reloc reloc_there xs
+      before after at len all

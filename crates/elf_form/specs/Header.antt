@@ -51,13 +51,15 @@ cut bytes = option_map (λ part. part.0) (find (λ part. passes bytes part.0 par
 abbrev pub wrong_half : ℕ → ℕ → List ℕ → Option ℕ
 wrong_half field wanted bytes = then_some (not (word16 bytes field == wanted)) field
 
--- Where a file of a type (ET_REL an object, ET_EXEC an image) is wrong by a cause, if it is. Each field of the header that is tested has one value. The other causes are given for what follows the header.
+-- Where a file of a type (ET_REL an object, ET_EXEC an image) is wrong by a cause, if it is. Each field of the header that is
+-- tested has one value. The other causes are given for what follows the header.
 abbrev pub wrong_file : ℕ → (ElfCause → Option ℕ) → List ℕ → ElfCause → Option ℕ
 wrong_file wanted other bytes Truncated = cut bytes
 wrong_file wanted other bytes Magic = then_some (not (word32 bytes 0 == ELFMAG)) 0
 wrong_file wanted other bytes Class = then_some (not (byte bytes EI_CLASS == ELFCLASS32)) EI_CLASS
 wrong_file wanted other bytes Encoding = then_some (not (byte bytes EI_DATA == ELFDATA2LSB)) EI_DATA
-wrong_file wanted other bytes Version = then_some (not (byte bytes EI_VERSION == EV_CURRENT)) EI_VERSION or_lower then_some (not (word32 bytes E_VERSION == EV_CURRENT)) E_VERSION
+wrong_file wanted other bytes Version = then_some (not (byte bytes EI_VERSION == EV_CURRENT)) EI_VERSION or_lower then_some
+    (not (word32 bytes E_VERSION == EV_CURRENT)) E_VERSION
 wrong_file wanted other bytes FileType = wrong_half E_TYPE wanted bytes
 wrong_file wanted other bytes Machine = wrong_half E_MACHINE EM_386 bytes
 wrong_file wanted other bytes cause = other cause

@@ -37,7 +37,16 @@ layout o =
     let symbols = data_relocs + REL_SIZE * count_by (is_of false) o.relocs in
     let strings = symbols + SYM_SIZE * (length o.symbols + 1) in
     let names = next (strings + length (strings_of o.symbols)) in
-    record { init = init; sites = sites; text_relocs = text_relocs; data_relocs = data_relocs; symbols = symbols; strings = strings; names = names; sections = next (names + 74) }
+    record {
+      init = init;
+      sites = sites;
+      text_relocs = text_relocs;
+      data_relocs = data_relocs;
+      symbols = symbols;
+      strings = strings;
+      names = names;
+      sections = next (names + 74);
+    }
 
 -- Section headers 1 to 3 are those of the text, the data and the zeroed bytes.
 abbrev pub place_number : Place → ℕ
@@ -48,7 +57,8 @@ place_number Bss = 3
 
 -- Symbol Table: name, value, size; binding (1 for global) and type, other, section
 unfoldable pub symbol_bytes : List (List ℕ) → Symbol → List ℕ
-symbol_bytes names s = longs (name_place names s.name ∷ s.value ∷ 0 ∷ []) ++ ((if s.global then 16 else 0) ∷ 0 ∷ halves (place_number s.place ∷ []))
+symbol_bytes names s =
+    longs (name_place names s.name ∷ s.value ∷ 0 ∷ []) ++ ((if s.global then 16 else 0) ∷ 0 ∷ halves (place_number s.place ∷ []))
 
 -- the null symbol and the symbols in their order
 unfoldable pub symbol_table : List Symbol → List ℕ
@@ -67,7 +77,8 @@ reloc_table in_text relocs = flat_map reloc_bytes (filter (is_of in_text) relocs
 
 -- the names of the sections, each ended by a zero byte
 abbrev pub object_names : List ℕ
-object_names = 0 ∷ codes ".text" ++ 0 ∷ codes ".data" ++ 0 ∷ codes ".bss" ++ 0 ∷ codes ".pv_sites" ++ 0 ∷ codes ".rel.text" ++ 0 ∷ codes ".rel.data" ++ 0 ∷ codes ".symtab" ++ 0 ∷ codes ".strtab" ++ 0 ∷ codes ".shstrtab" ++ 0 ∷ []
+object_names = 0 ∷ codes ".text" ++ 0 ∷ codes ".data" ++ 0 ∷ codes ".bss" ++ 0 ∷ codes ".pv_sites" ++ 0 ∷ codes ".rel.text"
+    ++ 0 ∷ codes ".rel.data" ++ 0 ∷ codes ".symtab" ++ 0 ∷ codes ".strtab" ++ 0 ∷ codes ".shstrtab" ++ 0 ∷ []
 
 unfoldable pub object_header : ObjectParts → List ℕ
 object_header o =

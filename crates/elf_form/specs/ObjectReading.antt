@@ -39,8 +39,10 @@ table_fault bytes found = option_and_then (entries_fault SYM_SIZE bytes) (first_
 unfoldable pub inner_sizes : List ℕ → Option ℕ
 inner_sizes bytes =
     wrong_half E_EHSIZE EHDR_SIZE bytes or_lower (wrong_half E_SHENTSIZE SHDR_SIZE bytes
-    or_lower (joined_fault role.Init (names bytes) bytes 0 (sections bytes) or_lower (joined_fault role.Bss (names bytes) bytes 0 (sections bytes)
-    or_lower (table_fault bytes (with_role role.Symbols (names bytes) bytes) or_lower sections_fault EntrySizes (table_of bytes) (names bytes) bytes))))
+    or_lower (joined_fault role.Init (names bytes) bytes 0 (sections bytes) or_lower
+    (joined_fault role.Bss (names bytes) bytes 0 (sections bytes)
+    or_lower (table_fault bytes (with_role role.Symbols (names bytes) bytes) or_lower sections_fault EntrySizes (table_of bytes)
+    (names bytes) bytes))))
 
 unfoldable pub object_sizes : List ℕ → Option ℕ
 object_sizes bytes = inner_sizes bytes or_lower too_long bytes
@@ -58,11 +60,13 @@ object_form bytes =
 
 -- Where there are sections, the header names the table of their names, in which each has a name.
 abbrev pub section_names_fault : List ℕ → Option ℕ
-section_names_fault bytes = if has_strings bytes (word16 bytes E_SHSTRNDX) || (section_count bytes == 0) then nameless bytes else Some E_SHSTRNDX
+section_names_fault bytes =
+    if has_strings bytes (word16 bytes E_SHSTRNDX) || (section_count bytes == 0) then nameless bytes else Some E_SHSTRNDX
 
 -- of a symbol table at s: it names a string table, in which each symbol has a name
 abbrev pub symbol_names_at : List ℕ → ℕ → Option ℕ
-symbol_names_at bytes s = if has_strings bytes (link_of bytes) then symbols_fault Names (table_of bytes) (strings_of bytes) (names bytes) bytes else Some (s + SH_LINK)
+symbol_names_at bytes s = if has_strings bytes (link_of bytes) then symbols_fault Names (table_of bytes) (strings_of bytes) (names bytes)
+    bytes else Some (s + SH_LINK)
 
 abbrev pub symbol_names_fault : List ℕ → Found → Option ℕ
 symbol_names_fault bytes found = option_and_then (symbol_names_at bytes) (first_in found)
@@ -99,8 +103,10 @@ object_at bytes = record {
   sites = contents_or (codes "PVS1" ++ 0 ∷ 0 ∷ 0 ∷ 0 ∷ []) bytes (with_role role.Sites (names bytes) bytes);
   symbols = symbols_in (table_of bytes) (strings_of bytes) (names bytes) bytes;
   relocs =
-      map (reloc_at (numbers (names bytes) bytes 0 (symbols_of (table_of bytes))) (names bytes) bytes) (relocs_of role.Text (names bytes) bytes)
-      ++ map (reloc_at (numbers (names bytes) bytes 0 (symbols_of (table_of bytes))) (names bytes) bytes) (relocs_of role.Init (names bytes) bytes);
+      map (reloc_at (numbers (names bytes) bytes 0 (symbols_of (table_of bytes))) (names bytes) bytes)
+      (relocs_of role.Text (names bytes) bytes)
+      ++ map (reloc_at (numbers (names bytes) bytes 0 (symbols_of (table_of bytes))) (names bytes) bytes)
+      (relocs_of role.Init (names bytes) bytes);
 }
 
 -- where a file is wrong as an object by a cause, if it is

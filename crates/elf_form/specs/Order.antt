@@ -22,7 +22,8 @@ pub record IsFirstPast (size : ℕ) (parts : List (ℕ × ℕ)) (at : ℕ) : Typ
 abbrev pub IsLowest : (ℕ → Type 0) → ℕ → Type 0
 IsLowest P at = P at × ((k : ℕ) → P k → at ≤ k)
 
--- The place that a cause has, where these are the places at which a file is bad by each: the lowest, and of parts that pass the end the first.
+-- The place that a cause has, where these are the places at which a file is bad by each: the lowest, and of parts that pass the
+-- end the first.
 abbrev pub HasPlace : (ElfCause → ℕ → Type 0) → List ℕ → ElfCause → ℕ → Type 0
 HasPlace bad bytes Truncated at = IsFirstPast (length bytes) (named_parts bytes) at
 HasPlace bad bytes cause at = IsLowest (bad cause) at

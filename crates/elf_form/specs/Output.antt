@@ -4,7 +4,8 @@ use Rattle.std.specs.List.{flat_map}
 use Rattle.std.specs.Int.{w16, w32, to_le_bytes}
 use Rattle.elf_form.specs.declared.abi.TheConstants.{ELFCLASS32, ELFDATA2LSB, EV_CURRENT}
 
--- the identification (System V ABI, chapter 4, ELF Identification): 0x7F and "ELF", the class, the encoding, the version, and nine zero bytes
+-- the identification (System V ABI, chapter 4, ELF Identification): 0x7F and "ELF", the class, the encoding, the version, and
+-- nine zero bytes
 abbrev pub identity : List ℕ
 identity = 127 ∷ codes "ELF" ++ ELFCLASS32 ∷ ELFDATA2LSB ∷ EV_CURRENT ∷ 0 ∷ 0 ∷ 0 ∷ 0 ∷ 0 ∷ 0 ∷ 0 ∷ 0 ∷ 0 ∷ []
 

@@ -1,4 +1,5 @@
--- Why a file is no object or no image: each cause by the condition that it stands for, with the offset of the bad field (System V ABI, chapters 4 and 5; which files are read is the profile's).
+-- Why a file is no object or no image: each cause by the condition that it stands for, with the offset of the bad field (System V
+-- ABI, chapters 4 and 5; which files are read is the profile's).
 use Rattle.std.specs.Prelude.{◌≡◌, ◌≢◌, ◌⊎◌, ℕ, ◌+◌, ◌%◌, ◌^◌, ◌≤◌, ◌<◌, true, false, List, [], ◌∷◌, ◌++◌, length, filter, slice_get, Some, Result, Err}
 use Rattle.std.specs.List.{Contains, sum_by}
 use Rattle.guest_ram.specs.Bytes.{byte, word16, word32}
@@ -66,7 +67,8 @@ pub data IsBadEntrySize (entry : ℕ) (bytes : List ℕ) (s at : ℕ) : Type 0 w
   uneven : size bytes s % entry ≢ 0 → at ≡ s + SH_SIZE → IsBadEntrySize entry bytes s at
   other : word32 bytes (s + SH_ENTSIZE) ≢ entry → at ≡ s + SH_ENTSIZE → IsBadEntrySize entry bytes s at
 
--- A size of an object that is wrong: e_ehsize, e_shentsize, sh_size of a section with which those that are joined are too much, sh_size and sh_entsize of the symbol table and of relocations, or the file's own.
+-- A size of an object that is wrong: e_ehsize, e_shentsize, sh_size of a section with which those that are joined are too much,
+-- sh_size and sh_entsize of the symbol table and of relocations, or the file's own.
 pub data IsBadObjectSize (bytes : List ℕ) (at : ℕ) : Type 0 where
   header : word16 bytes E_EHSIZE ≢ EHDR_SIZE → at ≡ E_EHSIZE → IsBadObjectSize bytes at
   section_header : word16 bytes E_SHENTSIZE ≢ SHDR_SIZE → at ≡ E_SHENTSIZE → IsBadObjectSize bytes at
@@ -80,23 +82,28 @@ pub data IsBadObjectSize (bytes : List ℕ) (at : ℕ) : Type 0 where
 abbrev pub loaded : List ℕ → List ℕ
 loaded bytes = filter (is_load bytes) (headers bytes)
 
--- A size of an image that is wrong: e_ehsize, e_phentsize, e_shentsize, p_memsz of the first and of the second part that is loaded, or the file's own.
+-- A size of an image that is wrong: e_ehsize, e_phentsize, e_shentsize, p_memsz of the first and of the second part that is
+-- loaded, or the file's own.
 pub data IsBadImageSize (bytes : List ℕ) (at : ℕ) : Type 0 where
   header : word16 bytes E_EHSIZE ≢ EHDR_SIZE → at ≡ E_EHSIZE → IsBadImageSize bytes at
   program_header : word16 bytes E_PHENTSIZE ≢ PHDR_SIZE → at ≡ E_PHENTSIZE → IsBadImageSize bytes at
   section_header : word16 bytes E_SHENTSIZE ≢ SHDR_SIZE → at ≡ E_SHENTSIZE → IsBadImageSize bytes at
-  first : (h : ℕ) → slice_get (loaded bytes) 0 ≡ Some h → word32 bytes (h + P_MEMSZ) ≢ word32 bytes (h + P_FILESZ) → at ≡ h + P_MEMSZ → IsBadImageSize bytes at
-  second : (h : ℕ) → slice_get (loaded bytes) 1 ≡ Some h → word32 bytes (h + P_MEMSZ) < word32 bytes (h + P_FILESZ) → at ≡ h + P_MEMSZ → IsBadImageSize bytes at
+  first : (h : ℕ) → slice_get (loaded bytes) 0 ≡ Some h → word32 bytes (h + P_MEMSZ) ≢ word32 bytes (h + P_FILESZ) → at ≡ h + P_MEMSZ
+      → IsBadImageSize bytes at
+  second : (h : ℕ) → slice_get (loaded bytes) 1 ≡ Some h → word32 bytes (h + P_MEMSZ) < word32 bytes (h + P_FILESZ) → at ≡ h + P_MEMSZ
+      → IsBadImageSize bytes at
   file : FILE_LIMIT < length bytes → at ≡ FILE_LIMIT → IsBadImageSize bytes at
 
 -- ---- sections and segments
 
--- A section that an object may not have: an allocated one of another type (at sh_type), a second text (at sh_flags), a second section of sites (at sh_name), data or zeroed bytes at another alignment (at sh_addralign).
+-- A section that an object may not have: an allocated one of another type (at sh_type), a second text (at sh_flags), a second
+-- section of sites (at sh_name), data or zeroed bytes at another alignment (at sh_addralign).
 pub data IsBadSection (bytes : List ℕ) (at : ℕ) : Type 0 where
   foreign : (s : ℕ) → IsOf role.Foreign bytes s → at ≡ s + SH_TYPE → IsBadSection bytes at
   text : (s : ℕ) → IsSecond (IsOf role.Text bytes) s → at ≡ s + SH_FLAGS → IsBadSection bytes at
   sites : (s : ℕ) → IsSecond (IsOf role.Sites bytes) s → at ≡ s → IsBadSection bytes at
-  aligned : (s : ℕ) → IsOf role.Init bytes s ⊎ IsOf role.Bss bytes s → (Contains alignments (alignment bytes s) → ⊥) → at ≡ s + SH_ADDRALIGN → IsBadSection bytes at
+  aligned : (s : ℕ) → IsOf role.Init bytes s ⊎ IsOf role.Bss bytes s → (Contains alignments (alignment bytes s) → ⊥) → at ≡ s + SH_ADDRALIGN
+      → IsBadSection bytes at
 
 -- Two program headers are loaded, and the first alone is executable.
 pub record AreTwo (bytes : List ℕ) : Type 0 where
@@ -122,12 +129,15 @@ IsCompressed bytes at = (s : ℕ) × IsSectionAt bytes s × (is_compressed bytes
 abbrev pub IsNameless : List ℕ → ℕ → Type 0
 IsNameless bytes s = IsSectionAt bytes s × (is_nameless (names bytes) bytes s ≡ true)
 
--- The header names no table of names (at e_shstrndx), a section's name doesn't end in it (at sh_name), the symbol table names no string table (at sh_link), or a symbol's name doesn't end in that (at st_name).
+-- The header names no table of names (at e_shstrndx), a section's name doesn't end in it (at sh_name), the symbol table names no
+-- string table (at sh_link), or a symbol's name doesn't end in that (at st_name).
 pub data IsBadName (bytes : List ℕ) (at : ℕ) : Type 0 where
   no_names : has_strings bytes (word16 bytes E_SHSTRNDX) ≡ false → section_count bytes ≢ 0 → at ≡ E_SHSTRNDX → IsBadName bytes at
   section : has_strings bytes (word16 bytes E_SHSTRNDX) ≡ true → IsNameless bytes at → IsBadName bytes at
-  no_table : (s : ℕ) → IsSymbolTable bytes s → has_strings bytes (word32 bytes (s + SH_LINK)) ≡ false → at ≡ s + SH_LINK → IsBadName bytes at
-  symbol : has_strings bytes (link_of bytes) ≡ true → Contains (symbols_of (table_of bytes)) at → is_unnamed (strings_of bytes) bytes at ≡ true → IsBadName bytes at
+  no_table : (s : ℕ) → IsSymbolTable bytes s → has_strings bytes (word32 bytes (s + SH_LINK)) ≡ false → at ≡ s + SH_LINK
+      → IsBadName bytes at
+  symbol : has_strings bytes (link_of bytes) ≡ true → Contains (symbols_of (table_of bytes)) at
+      → is_unnamed (strings_of bytes) bytes at ≡ true → IsBadName bytes at
 
 -- ---- symbols and relocations
 
@@ -138,14 +148,18 @@ IsReloc bytes e = (s : ℕ) × IsRelocs bytes s × Contains (relocs_in bytes s) 
 -- A symbol is needed: it isn't local, or a relocation names it.
 pub data IsNeeded (bytes : List ℕ) (y : ℕ) : Type 0 where
   global : Contains (symbols_of (table_of bytes)) y → binding bytes y ≢ STB_LOCAL → IsNeeded bytes y
-  named : (e : Entry) → IsReloc bytes e → has_symbol (table_of bytes) bytes e.at ≡ true → y ≡ symbol_of (table_of bytes) bytes e.at → IsNeeded bytes y
+  named : (e : Entry) → IsReloc bytes e → has_symbol (table_of bytes) bytes e.at ≡ true
+      → y ≡ symbol_of (table_of bytes) bytes e.at → IsNeeded bytes y
 
--- It is neither local nor global (at st_info), or neither undefined nor in a section that is kept (at st_shndx). A symbol for a file is never bad.
+-- It is neither local nor global (at st_info), or neither undefined nor in a section that is kept (at st_shndx). A symbol for a
+-- file is never bad.
 pub data IsBadSymbol (bytes : List ℕ) (at : ℕ) : Type 0 where
   bound : (y : ℕ) → IsNeeded bytes y → is_file bytes y ≡ false → has_binding bytes y ≡ false → at ≡ y + ST_INFO → IsBadSymbol bytes at
-  placed : (y : ℕ) → IsNeeded bytes y → is_file bytes y ≡ false → has_place (names bytes) bytes y ≡ false → at ≡ y + ST_SHNDX → IsBadSymbol bytes at
+  placed : (y : ℕ) → IsNeeded bytes y → is_file bytes y ≡ false → has_place (names bytes) bytes y ≡ false → at ≡ y + ST_SHNDX
+      → IsBadSymbol bytes at
 
--- Relocations use another section than the symbol table (at sh_link), a field isn't inside its section (at r_offset), a relocation is of another type than R_386_32 and R_386_PC32, or names no symbol (at r_info).
+-- Relocations use another section than the symbol table (at sh_link), a field isn't inside its section (at r_offset), a
+-- relocation is of another type than R_386_32 and R_386_PC32, or names no symbol (at r_info).
 pub data IsBadReloc (bytes : List ℕ) (at : ℕ) : Type 0 where
   link : (s : ℕ) → IsRelocs bytes s → is_linked (table_of bytes) (names bytes) bytes s ≡ false → at ≡ s + SH_LINK → IsBadReloc bytes at
   outside : (e : Entry) → IsReloc bytes e → is_outside (names bytes) bytes e ≡ true → at ≡ e.at → IsBadReloc bytes at
@@ -156,9 +170,11 @@ pub data IsBadReloc (bytes : List ℕ) (at : ℕ) : Type 0 where
 
 -- the fields of the header that have one value
 abbrev pub IsBadVersion : List ℕ → ℕ → Type 0
-IsBadVersion bytes at = ((byte bytes EI_VERSION ≢ EV_CURRENT) × (at ≡ EI_VERSION)) ⊎ ((word32 bytes E_VERSION ≢ EV_CURRENT) × (at ≡ E_VERSION))
+IsBadVersion bytes at =
+    ((byte bytes EI_VERSION ≢ EV_CURRENT) × (at ≡ EI_VERSION)) ⊎ ((word32 bytes E_VERSION ≢ EV_CURRENT) × (at ≡ E_VERSION))
 
--- A file of a type (ET_REL an object, ET_EXEC an image) is bad by a cause at this place. The other causes are given for what follows the header.
+-- A file of a type (ET_REL an object, ET_EXEC an image) is bad by a cause at this place. The other causes are given for what
+-- follows the header.
 abbrev pub IsBadFile : ℕ → (ElfCause → ℕ → Type 0) → List ℕ → ElfCause → ℕ → Type 0
 IsBadFile wanted inner bytes Truncated at = IsPast (length bytes) (named_parts bytes) at
 IsBadFile wanted inner bytes Magic at = (word32 bytes 0 ≢ ELFMAG) × (at ≡ 0)

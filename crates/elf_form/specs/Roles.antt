@@ -1,4 +1,5 @@
--- What each section of an object is read as, by its type and its flags (System V ABI, chapter 4, Sections). What is joined and how is the profile's.
+-- What each section of an object is read as, by its type and its flags (System V ABI, chapter 4, Sections). What is joined and
+-- how is the profile's.
 use Rattle.std.specs.Prelude.{ℕ, ◌+◌, ◌-◌, ◌/◌, ◌%◌, ◌^◌, Bool, true, false, not, ◌&&◌, ◌||◌, List, [], ◌∷◌, ◌++◌, length, fold, filter, replicate, Option, Some, None, nat_lt, ◌==◌, if◌then◌else◌}
 use Rattle.std.specs.List.{find}
 use Rattle.guest_ram.specs.Among.{is_among}
@@ -24,7 +25,8 @@ role_by kind flags =
 
 -- The section of sites is found by its name.
 unfoldable pub role : List ℕ → List ℕ → ℕ → Role
-role names bytes s = if is_null bytes s then Ignored else (if is_sites names bytes s then Sites else role_by (word32 bytes (s + SH_TYPE)) (word32 bytes (s + SH_FLAGS)))
+role names bytes s = if is_null bytes s then Ignored
+    else (if is_sites names bytes s then Sites else role_by (word32 bytes (s + SH_TYPE)) (word32 bytes (s + SH_FLAGS)))
 
 -- the place of a role in its declaration, by which roles are compared
 abbrev pub role_number : Role → ℕ
@@ -70,7 +72,8 @@ unfoldable pub joined_fault : Role → List ℕ → List ℕ → ℕ → List �
 joined_fault r names bytes total [] = None
 joined_fault r names bytes total (s ∷ rest) =
     if has_role r names bytes s
-    then (if nat_lt (total + (size bytes s + pad 4096 (size bytes s))) 4294967296 then joined_fault r names bytes (total + (size bytes s + pad 4096 (size bytes s))) rest else Some (s + SH_SIZE))
+    then (if nat_lt (total + (size bytes s + pad 4096 (size bytes s))) 4294967296 then joined_fault r names bytes
+    (total + (size bytes s + pad 4096 (size bytes s))) rest else Some (s + SH_SIZE))
     else joined_fault r names bytes total rest
 
 -- where each section begins among those of a role, after the end so far; 0 for the others

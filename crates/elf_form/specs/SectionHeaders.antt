@@ -18,7 +18,8 @@ placed h address offset size = record h { address = address; offset = offset; si
 
 -- the first header of a table, which stands for no section
 abbrev pub no_section : SectionHeader
-no_section = record { name = 0; kind = SHT_NULL; flags = 0; address = 0; offset = 0; size = 0; link = 0; info = 0; alignment = 0; entry_size = 0 }
+no_section =
+    record { name = 0; kind = SHT_NULL; flags = 0; address = 0; offset = 0; size = 0; link = 0; info = 0; alignment = 0; entry_size = 0 }
 
 -- Text, data, zeroed bytes and annotations begin a table of section headers. Their names stand in this order after a zero byte.
 abbrev pub text_section : SectionHeader

@@ -1,4 +1,5 @@
--- String tables (System V ABI, chapter 4, String Table): names, each ended by a zero byte. The empty name stands first, so a table begins with a zero byte.
+-- String tables (System V ABI, chapter 4, String Table): names, each ended by a zero byte. The empty name stands first, so a
+-- table begins with a zero byte.
 use Rattle.std.specs.Prelude.{ℕ, ◌+◌, List, [], ◌∷◌, ◌++◌, length, Option, Some, None, is_some, unwrap_or, if◌then◌else◌}
 use Rattle.std.specs.List.{flat_map}
 use Rattle.std.specs.Str.{bytes_eq}

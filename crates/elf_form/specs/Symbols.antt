@@ -1,4 +1,5 @@
--- The symbols of an object and its relocations (System V ABI, chapter 4, Symbol Table and Relocation, with the relocation types of its i386 supplement).
+-- The symbols of an object and its relocations (System V ABI, chapter 4, Symbol Table and Relocation, with the relocation types
+-- of its i386 supplement).
 use Rattle.std.specs.Prelude.{ℕ, ◌+◌, ◌*◌, ◌-◌, ◌/◌, ◌%◌, ◌^◌, Bool, true, not, ◌&&◌, ◌||◌, List, [], ◌∷◌, length, map, filter, fold, drop, Option, None, nat_lt, ◌==◌, slice_index, if◌then◌else◌}
 use Rattle.std.specs.Bool.{then_some}
 use Rattle.std.specs.List.{before_first, flat_map}
@@ -32,7 +33,8 @@ use Rattle.elf_form.specs.Roles.{role as role_of, role_number, has_role, is_kept
 -- where the table is and how many symbols it has, none where there is no table
 abbrev pub table_at : List ℕ → Found → Table
 table_at bytes Nothing = record { section = 0; at = 0; count = 0 }
-table_at bytes found = let s = first_of found in record { section = s; at = word32 bytes (s + SH_OFFSET); count = length (contents bytes s) / SYM_SIZE }
+table_at bytes found = let s =
+    first_of found in record { section = s; at = word32 bytes (s + SH_OFFSET); count = length (contents bytes s) / SYM_SIZE }
 
 -- the symbols after the null one
 abbrev pub symbols_of : Table → List ℕ
@@ -105,15 +107,18 @@ relocs_of r names bytes = flat_map (relocs_in bytes) (filter (is_reloc_section_o
 
 -- a size that is no multiple of that of an entry, or another size of entries
 abbrev pub entries_fault : ℕ → List ℕ → ℕ → Option ℕ
-entries_fault entry bytes s = option_or (then_some (not (size bytes s % entry == 0)) (s + SH_SIZE)) (then_some (not (word32 bytes (s + SH_ENTSIZE) == entry)) (s + SH_ENTSIZE))
+entries_fault entry bytes s = option_or (then_some (not (size bytes s % entry == 0)) (s + SH_SIZE))
+    (then_some (not (word32 bytes (s + SH_ENTSIZE) == entry)) (s + SH_ENTSIZE))
 
 -- the section that a section names is the symbol table
 abbrev pub is_linked : Table → List ℕ → List ℕ → ℕ → Bool
-is_linked table names bytes s = (role_number (role_at names bytes (word32 bytes (s + SH_LINK))) == role_number role.Symbols) && (section_of bytes (word32 bytes (s + SH_LINK)) == table.section)
+is_linked table names bytes s = (role_number (role_at names bytes (word32 bytes (s + SH_LINK))) == role_number role.Symbols)
+    && (section_of bytes (word32 bytes (s + SH_LINK)) == table.section)
 
 abbrev pub section_test : SectionTest → Table → List ℕ → List ℕ → ℕ → Option ℕ
 section_test EntrySizes table names bytes s = if is_reloc_section names bytes s then entries_fault REL_SIZE bytes s else None
-section_test Links table names bytes s = if is_reloc_section names bytes s then then_some (not (is_linked table names bytes s)) (s + SH_LINK) else None
+section_test Links table names bytes s =
+    if is_reloc_section names bytes s then then_some (not (is_linked table names bytes s)) (s + SH_LINK) else None
 
 unfoldable pub sections_fault : SectionTest → Table → List ℕ → List ℕ → Option ℕ
 sections_fault test table names bytes = first_some (section_test test table names bytes) (sections bytes)
@@ -140,7 +145,8 @@ size_at bytes index = if nat_lt index (section_count bytes) then size bytes (sec
 
 -- the field is not inside its section, or that has no bytes
 abbrev pub is_outside : List ℕ → List ℕ → Entry → Bool
-is_outside names bytes e = (role_number (target_role names bytes e.section) == role_number role.Bss) || nat_lt (size_at bytes (target bytes e.section)) (word32 bytes e.at + 4)
+is_outside names bytes e = (role_number (target_role names bytes e.section) == role_number role.Bss)
+    || nat_lt (size_at bytes (target bytes e.section)) (word32 bytes e.at + 4)
 
 -- an address or a distance (i386 supplement, Relocation Types)
 abbrev pub has_kind : List ℕ → ℕ → Bool
@@ -154,7 +160,8 @@ abbrev pub named_fault : Table → List ℕ → List ℕ → ℕ → Option ℕ
 named_fault table names bytes y = if has_symbol table bytes y then symbol_fault names bytes (symbol_of table bytes y) else None
 
 abbrev pub form_fault : Table → List ℕ → List ℕ → Entry → Option ℕ
-form_fault table names bytes e = option_or (then_some (is_outside names bytes e) e.at) (then_some (not (has_kind bytes e.at) || names_none table bytes e.at) (e.at + R_INFO))
+form_fault table names bytes e = option_or (then_some (is_outside names bytes e) e.at)
+    (then_some (not (has_kind bytes e.at) || names_none table bytes e.at) (e.at + R_INFO))
 
 abbrev pub reloc_test : RelocTest → Table → List ℕ → List ℕ → Entry → Option ℕ
 reloc_test Named table names bytes e = named_fault table names bytes e.at
@@ -173,7 +180,8 @@ start_in role.Bss init_starts bss_starts index = slice_index bss_starts index
 start_in r init_starts bss_starts index = 0
 
 unfoldable pub start_at : List ℕ → List ℕ → ℕ → ℕ
-start_at names bytes index = start_in (role_at names bytes index) (starts role.Init names bytes 0 (sections bytes)) (starts role.Bss names bytes 0 (sections bytes)) index
+start_at names bytes index = start_in (role_at names bytes index) (starts role.Init names bytes 0 (sections bytes))
+    (starts role.Bss names bytes 0 (sections bytes)) index
 
 -- A name ends before the first zero byte.
 abbrev pub name_in : List ℕ → ℕ → List ℕ

@@ -32,4 +32,5 @@ AllFound P (More a b) = P a × P b
 
 -- two program headers and a section of the file
 abbrev pub ArePlaces : List ℕ → ℕ × ℕ × ℕ → Type 0
-ArePlaces bytes at = IsHeader bytes at.0 × IsHeader bytes at.1 × IsSection bytes at.2 × (word32 bytes (at.1 + P_FILESZ) ≤ word32 bytes (at.1 + P_MEMSZ))
+ArePlaces bytes at =
+    IsHeader bytes at.0 × IsHeader bytes at.1 × IsSection bytes at.2 × (word32 bytes (at.1 + P_FILESZ) ≤ word32 bytes (at.1 + P_MEMSZ))

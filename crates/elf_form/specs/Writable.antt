@@ -16,7 +16,8 @@ use Rattle.std.specs.HashMap.{HashMap}
 use denote.Ref.{Bor}
 use Rattle.elf_form.specs.StringTable.{place_in, table_bytes}
 
--- An object's file, and its data with the zeroed bytes, are shorter than 2 ^ 31 bytes. There are no more symbols than an object may have, and each relocation names one.
+-- An object's file, and its data with the zeroed bytes, are shorter than 2 ^ 31 bytes. There are no more symbols than an object
+-- may have, and each relocation names one.
 pub record IsWritableObject (o : ObjectParts) : Type 0 where
   pub file : (layout o).sections + 400 < 2 ^ 31
   pub memory : length o.init + o.bss < 2 ^ 31
@@ -31,7 +32,9 @@ IsPlaced s = s.place ≡ Undefined → (s.global ≡ true) × (s.value ≡ 0)
 abbrev pub relocated_part : ObjectParts → Reloc → List ℕ
 relocated_part o r = if r.in_text then o.text else o.init
 
--- An object of which a file is made that is read as it. In its lists the local symbols come before the global ones, and the relocations of the text before those of the data. No name holds a zero byte. The field of each relocation, of four bytes, lies in its section.
+-- An object of which a file is made that is read as it. In its lists the local symbols come before the global ones, and the
+-- relocations of the text before those of the data. No name holds a zero byte. The field of each relocation, of four bytes, lies
+-- in its section.
 pub record IsWholeObject (o : ObjectParts) : Type 0 where
   pub writable : IsWritableObject o
   pub split : o.symbols ≡ filter (λ s. not s.global) o.symbols ++ filter (λ s. s.global) o.symbols
@@ -53,7 +56,8 @@ pub record AreLengths (o : ObjectParts) (lengths : Lengths) : Type 0 where
   pub data_relocs : lengths.data_relocs ≡ count_by (is_of false) o.relocs
   pub symbols : lengths.symbols ≡ length o.symbols
   pub strings : lengths.strings ≡ length (strings_of o.symbols)
-  pub small : lengths.text + lengths.init + lengths.sites + REL_SIZE * lengths.text_relocs + REL_SIZE * lengths.data_relocs + SYM_SIZE * lengths.symbols + lengths.strings < 2 ^ 31
+  pub small : lengths.text + lengths.init + lengths.sites + REL_SIZE * lengths.text_relocs + REL_SIZE * lengths.data_relocs
+      + SYM_SIZE * lengths.symbols + lengths.strings < 2 ^ 31
 
 -- The same of an image.
 pub record IsWritableImage (p : ImageParts) : Type 0 where

@@ -24,23 +24,28 @@ pub record Exporting (n : ℕ) (old gs : List (List ℕ × Target)) (symbols : L
 pub exporting_first : (n : ℕ) (gs : List (List ℕ × Target)) (symbols : List Symbol) → Exporting n gs gs symbols 0
 exporting_first n gs symbols = record { so_far = refl; added = refl }
 
-module _ (n : ℕ) (old gs : List (List ℕ × Target)) (symbols : List Symbol) (i : ℕ) (s : Symbol) (lt : i < length symbols) (is : get_or symbols i s ≡ s) (now : Exporting n old gs symbols i) where
+module _ (n : ℕ) (old gs : List (List ℕ × Target)) (symbols : List Symbol) (i : ℕ) (s : Symbol) (lt : i < length symbols)
+    (is : get_or symbols i s ≡ s) (now : Exporting n old gs symbols i) where
   rest : List Symbol
   rest = drop (i + 1) symbols
 
-  names_at : (b : Bool) → is_exported s ≡ b → names (drop i symbols) ≡ map (λ x. x.name) (cond b (s ∷ filter is_exported rest) (filter is_exported rest))
+  names_at : (b : Bool) → is_exported s ≡ b
+      → names (drop i symbols) ≡ map (λ x. x.name) (cond b (s ∷ filter is_exported rest) (filter is_exported rest))
   unfolding rest
   names_at b e =
       at_drop_more names symbols i s lt
       ∙ (ap (λ (x : Symbol). names (x ∷ drop (i + 1) symbols)) is
-      ∙ ap (λ (t : Bool). map (λ (x : Symbol). x.name) (cond t (s ∷ filter is_exported (drop (i + 1) symbols)) (filter is_exported (drop (i + 1) symbols)))) e)
+      ∙ ap (λ (t : Bool). map (λ (x : Symbol). x.name)
+      (cond t (s ∷ filter is_exported (drop (i + 1) symbols)) (filter is_exported (drop (i + 1) symbols)))) e)
 
-  entries_at : (b : Bool) → is_exported s ≡ b → entries n (drop i symbols) ≡ map (λ x. (x.name, target n x)) (cond b (s ∷ filter is_exported rest) (filter is_exported rest))
+  entries_at : (b : Bool) → is_exported s ≡ b → entries n (drop i symbols) ≡ map (λ x. (x.name, target n x))
+      (cond b (s ∷ filter is_exported rest) (filter is_exported rest))
   unfolding rest
   entries_at b e =
       at_drop_more (entries n) symbols i s lt
       ∙ (ap (λ (x : Symbol). entries n (x ∷ drop (i + 1) symbols)) is
-      ∙ ap (λ (t : Bool). map (λ (x : Symbol). (x.name, target n x)) (cond t (s ∷ filter is_exported (drop (i + 1) symbols)) (filter is_exported (drop (i + 1) symbols)))) e)
+      ∙ ap (λ (t : Bool). map (λ (x : Symbol). (x.name, target n x))
+      (cond t (s ∷ filter is_exported (drop (i + 1) symbols)) (filter is_exported (drop (i + 1) symbols)))) e)
 
   pub exporting_skipped : is_exported s ≡ false → Exporting n old gs symbols (i + 1)
   unfolding rest
@@ -56,11 +61,13 @@ module _ (n : ℕ) (old gs : List (List ℕ × Target)) (symbols : List Symbol) 
       ∙ (ap (first_doubled (keys gs)) (names_at true e)
       ∙ ap (λ (t : Bool). cond t (Some s.name) (first_doubled (keys gs ++ s.name ∷ []) (names (drop (i + 1) symbols)))) there)
 
-  pub exporting_added : is_exported s ≡ true → holds (keys gs) s.name ≡ false → Exporting n old (gs ++ (s.name, target n s) ∷ []) symbols (i + 1)
+  pub exporting_added : is_exported s ≡ true → holds (keys gs) s.name ≡ false
+      → Exporting n old (gs ++ (s.name, target n s) ∷ []) symbols (i + 1)
   unfolding rest first_doubled
   exporting_added e absent = record {
     so_far =
-        ap (λ (ks : List (List ℕ)). first_doubled ks (names (drop (i + 1) symbols))) (map-append (λ (d : List ℕ × Target). d.0) gs ((s.name, target n s) ∷ []))
+        ap (λ (ks : List (List ℕ)). first_doubled ks (names (drop (i + 1) symbols)))
+        (map-append (λ (d : List ℕ × Target). d.0) gs ((s.name, target n s) ∷ []))
         ∙ (sym (ap (λ (t : Bool). cond t (Some s.name) (first_doubled (keys gs ++ s.name ∷ []) (names (drop (i + 1) symbols)))) absent)
         ∙ (sym (ap (first_doubled (keys gs)) (names_at true e)) ∙ now.so_far));
     added =
@@ -68,10 +75,12 @@ module _ (n : ℕ) (old gs : List (List ℕ × Target)) (symbols : List Symbol) 
         ∙ (ap (λ (es : List (List ℕ × Target)). gs ++ es) (sym (entries_at true e)) ∙ now.added);
   }
 
-module _ (n : ℕ) (old gs : List (List ℕ × Target)) (symbols : List Symbol) (i : ℕ) (past : length symbols ≤ i) (now : Exporting n old gs symbols i) where
+module _ (n : ℕ) (old gs : List (List ℕ × Target)) (symbols : List Symbol) (i : ℕ) (past : length symbols ≤ i)
+    (now : Exporting n old gs symbols i) where
   pub exporting_none : first_doubled (keys old) (names symbols) ≡ None
   unfolding first_doubled
   exporting_none = sym now.so_far ∙ at_drop_all (λ (ss : List Symbol). first_doubled (keys gs) (names ss)) symbols i past
 
   pub exporting_all : gs ≡ old ++ entries n symbols
-  exporting_all = sym (append-nil gs) ∙ (ap (λ (es : List (List ℕ × Target)). gs ++ es) (sym (at_drop_all (entries n) symbols i past)) ∙ now.added)
+  exporting_all =
+      sym (append-nil gs) ∙ (ap (λ (es : List (List ℕ × Target)). gs ++ es) (sym (at_drop_all (entries n) symbols i past)) ∙ now.added)

@@ -19,11 +19,13 @@ module _ {X Y : Type 0} (f : X → Option Y) (xs : List X) (i : ℕ) where
   first_at x lt e = at_drop_more (first_some f) xs i x lt ∙ ap (λ (y : X). option_or (f y) (first_some f (drop (i + 1) xs))) e
 
   pub first_here : (x : X) (y : Option Y) → i < length xs → get_or xs i x ≡ x → Passed → f x ≡ y → is_some y ≡ true → first_some f xs ≡ y
-  first_here x (Some y) lt e passed found some = sym passed ∙ (first_at x lt e ∙ ap (λ (o : Option Y). option_or o (first_some f (drop (i + 1) xs))) found)
+  first_here x (Some y) lt e passed found some =
+      sym passed ∙ (first_at x lt e ∙ ap (λ (o : Option Y). option_or o (first_some f (drop (i + 1) xs))) found)
   first_here x None lt e passed found some = absurd (cc)
 
   pub first_next : (x : X) → i < length xs → get_or xs i x ≡ x → Passed → f x ≡ None → first_some f (drop (i + 1) xs) ≡ first_some f xs
-  first_next x lt e passed none = ap (λ (o : Option Y). option_or o (first_some f (drop (i + 1) xs))) (sym none) ∙ (sym (first_at x lt e) ∙ passed)
+  first_next x lt e passed none =
+      ap (λ (o : Option Y). option_or o (first_some f (drop (i + 1) xs))) (sym none) ∙ (sym (first_at x lt e) ∙ passed)
 
   pub first_end : length xs ≤ i → Passed → first_some f xs ≡ None
   unfolding first_some
@@ -31,12 +33,14 @@ module _ {X Y : Type 0} (f : X → Option Y) (xs : List X) (i : ℕ) where
 
 -- a refusal of one item is the refusal of the list
 module _ {X : Type 0} (f : X → Option Refused) (xs : List X) (i : ℕ) where
-  fails_by : (x : X) (o : Option Refused) (e : LinkFault) → i < length xs → get_or xs i x ≡ x → Passed f xs i → f x ≡ o → Fails e (tested o) → Fails e (tested (first_some f xs))
+  fails_by : (x : X) (o : Option Refused) (e : LinkFault) → i < length xs → get_or xs i x ≡ x → Passed f xs i → f x ≡ o → Fails e (tested o)
+      → Fails e (tested (first_some f xs))
   fails_by x o faults.Memory lt is passed found h = tt
   fails_by x None (faults.At object cause) lt is passed found h = absurd (cc)
   fails_by x (Some r) (faults.At object cause) lt is passed found h = ap tested (first_here f xs i x (Some r) lt is passed found refl) ∙ h
 
-  pub fails_here : (x : X) (e : LinkFault) → i < length xs → get_or xs i x ≡ x → Passed f xs i → Fails e (tested (f x)) → Fails e (tested (first_some f xs))
+  pub fails_here : (x : X) (e : LinkFault) → i < length xs → get_or xs i x ≡ x → Passed f xs i → Fails e (tested (f x))
+      → Fails e (tested (first_some f xs))
   fails_here x e lt is passed h = fails_by x (f x) e lt is passed refl h
 
 none_from : (o : Option Refused) → tested o ≡ Ok tt → o ≡ None

@@ -18,8 +18,10 @@ text_end-push (p ∷ q ∷ os) o =
     ap (λ (n : ℕ). text_room p + n) (text_end-push (q ∷ os) o)
     ∙ rw (sum_by-cons text_room p (q ∷ os)) (omega arith)
 
-pub text_end-more : (os : List ObjectParts) (i : ℕ) (o : ObjectParts) → i < length os → get_or os i o ≡ o → text_end (take (i + 1) os) ≡ sum_by text_room (take i os) + text_size o
-text_end-more os i o lt is = ap text_end (take_more os i o lt ∙ ap (λ (p : ObjectParts). take i os ++ p ∷ []) is) ∙ text_end-push (take i os) o
+pub text_end-more : (os : List ObjectParts) (i : ℕ) (o : ObjectParts) → i < length os → get_or os i o ≡ o
+    → text_end (take (i + 1) os) ≡ sum_by text_room (take i os) + text_size o
+text_end-more os i o lt is =
+    ap text_end (take_more os i o lt ∙ ap (λ (p : ObjectParts). take i os ++ p ∷ []) is) ∙ text_end-push (take i os) o
 
 abbrev pub room_of : (ObjectParts → ℕ) → ObjectParts → ℕ
 room_of size o = round_up 4096 (size o)
@@ -43,7 +45,8 @@ round_up-le n q h =
 abbrev rooms : (ObjectParts → ℕ) → List ObjectParts → ℕ
 rooms size os = sum_by (room_of size) os
 
-rooms-cons : (size : ObjectParts → ℕ) (o : ObjectParts) (os : List ObjectParts) → rooms size (o ∷ os) ≡ round_up 4096 (size o) + rooms size os
+rooms-cons : (size : ObjectParts → ℕ) (o : ObjectParts) (os : List ObjectParts)
+    → rooms size (o ∷ os) ≡ round_up 4096 (size o) + rooms size os
 rooms-cons size o os = sum_by-cons (room_of size) o os
 
 rooms-multiple : (size : ObjectParts → ℕ) (os : List ObjectParts) → (c : ℕ) × (rooms size os ≡ 4096 * c)
@@ -67,13 +70,15 @@ extent-le-rooms size (o ∷ os) =
     let ih = extent-le-rooms size os in
     let e = rooms-cons size o os in
     let P : ℕ → Type 0 = λ n. n ≤ rooms size (o ∷ os) in
-    elim (sum_by size os == 0) as (λ (b : Bool). cond b (size o) (round_up 4096 (size o) + extent size os) ≤ rooms size (o ∷ os)) [ true ↦ omega (arith, e) | false ↦ omega (arith, e, ih) ]
+    elim (sum_by size os == 0) as (λ (b : Bool). cond b (size o) (round_up 4096 (size o) + extent size os) ≤ rooms size (o ∷ os))
+    [ true ↦ omega (arith, e) | false ↦ omega (arith, e, ih) ]
 
 rooms-le : (size : ObjectParts → ℕ) (os : List ObjectParts) (q : ℕ) → extent size os ≤ 4096 * q → rooms size os ≤ 4096 * q
 unfolding extent
 rooms-le size [] q h = omega arith
 rooms-le size (o ∷ os) q h = by (rooms-le size os) (sum_by size os == 0) refl h where
-  by : ((k : ℕ) → extent size os ≤ 4096 * k → rooms size os ≤ 4096 * k) → (b : Bool) → (sum_by size os == 0) ≡ b → cond b (size o) (round_up 4096 (size o) + extent size os) ≤ 4096 * q → rooms size (o ∷ os) ≤ 4096 * q
+  by : ((k : ℕ) → extent size os ≤ 4096 * k → rooms size os ≤ 4096 * k) → (b : Bool) → (sum_by size os == 0) ≡ b
+      → cond b (size o) (round_up 4096 (size o) + extent size os) ≤ 4096 * q → rooms size (o ∷ os) ≤ 4096 * q
   by ih true e h =
       let none = rooms-none size os (eqb-true (sum_by size os) 0 e) in
       omega (arith, rooms-cons size o os, none, round_up-le (size o) q h)
@@ -84,30 +89,37 @@ rooms-le size (o ∷ os) q h = by (rooms-le size os) (sum_by size os == 0) refl 
 
 -- ---- one part more
 
-extent-push : (size : ObjectParts → ℕ) (os : List ObjectParts) (o : ObjectParts) → extent size (os ++ o ∷ []) ≡ cond (size o == 0) (extent size os) (rooms size os + size o)
+extent-push : (size : ObjectParts → ℕ) (os : List ObjectParts) (o : ObjectParts) → extent size (os ++ o ∷ []) ≡ cond (size o == 0)
+    (extent size os) (rooms size os + size o)
 unfolding extent
 extent-push size [] o = by (size o == 0) refl where
   by : (b : Bool) → (size o == 0) ≡ b → size o ≡ cond b 0 (0 + size o)
   by true e = eqb-true (size o) 0 e
   by false e = omega arith
 extent-push size (p ∷ os) o = by (size o == 0) refl (extent-push size os o) where
-  by : (b : Bool) → (size o == 0) ≡ b → extent size (os ++ o ∷ []) ≡ cond b (extent size os) (rooms size os + size o) → cond (sum_by size (os ++ o ∷ []) == 0) (size p) (round_up 4096 (size p) + extent size (os ++ o ∷ [])) ≡ cond b (cond (sum_by size os == 0) (size p) (round_up 4096 (size p) + extent size os)) (rooms size (p ∷ os) + size o)
+  by : (b : Bool) → (size o == 0) ≡ b → extent size (os ++ o ∷ []) ≡ cond b (extent size os) (rooms size os + size o)
+      → cond (sum_by size (os ++ o ∷ []) == 0) (size p) (round_up 4096 (size p) + extent size (os ++ o ∷ [])) ≡ cond b
+      (cond (sum_by size os == 0) (size p) (round_up 4096 (size p) + extent size os)) (rooms size (p ∷ os) + size o)
   by true e ih =
       let zero : size o ≡ 0 = eqb-true (size o) 0 e in
       let same : sum_by size (os ++ o ∷ []) ≡ sum_by size os = omega (arith, sum_by-append size os (o ∷ []), sum_by-cons size o []) in
       rw (same, ih) refl
   by false e ih =
-      let more : (sum_by size (os ++ o ∷ []) == 0) ≡ false = ne_eqb (sum_by size (os ++ o ∷ [])) 0 (λ z. eqb-false (size o) 0 e (omega (arith, sum_by-append size os (o ∷ []), sum_by-cons size o []))) in
+      let more : (sum_by size (os ++ o ∷ []) == 0) ≡ false = ne_eqb (sum_by size (os ++ o ∷ [])) 0
+      (λ z. eqb-false (size o) 0 e (omega (arith, sum_by-append size os (o ∷ []), sum_by-cons size o []))) in
       rw (more, ih) (omega (arith, rooms-cons size p os))
 
-pub extent-more : (size : ObjectParts → ℕ) (os : List ObjectParts) (i : ℕ) (o : ObjectParts) → i < length os → get_or os i o ≡ o → extent size (take (i + 1) os) ≡ cond (size o == 0) (extent size (take i os)) (sum_by (room_of size) (take i os) + size o)
-extent-more size os i o lt is = ap (extent size) (take_more os i o lt ∙ ap (λ (p : ObjectParts). take i os ++ p ∷ []) is) ∙ extent-push size (take i os) o
+pub extent-more : (size : ObjectParts → ℕ) (os : List ObjectParts) (i : ℕ) (o : ObjectParts) → i < length os → get_or os i o ≡ o
+    → extent size (take (i + 1) os) ≡ cond (size o == 0) (extent size (take i os)) (sum_by (room_of size) (take i os) + size o)
+extent-more size os i o lt is =
+    ap (extent size) (take_more os i o lt ∙ ap (λ (p : ObjectParts). take i os ++ p ∷ []) is) ∙ extent-push size (take i os) o
 
 -- ---- the limit of data
 
 ends_within : (os : List ObjectParts) → memory_end os ≤ 33554432 → sum_by init_room os + sum_by bss_room os ≤ 33554432
 ends_within os h = by (extent bss_size os == 0) refl h where
-  by : (b : Bool) → (extent bss_size os == 0) ≡ b → cond b (extent init_size os) (sum_by init_room os + extent bss_size os) ≤ 33554432 → sum_by init_room os + sum_by bss_room os ≤ 33554432
+  by : (b : Bool) → (extent bss_size os == 0) ≡ b → cond b (extent init_size os) (sum_by init_room os + extent bss_size os) ≤ 33554432
+      → sum_by init_room os + sum_by bss_room os ≤ 33554432
   by true e h =
       let zero : extent bss_size os ≤ 4096 * 0 = omega (arith, eqb-true (extent bss_size os) 0 e) in
       omega (arith, rooms-le init_size os 8192 h, rooms-le bss_size os 0 zero)
@@ -120,7 +132,8 @@ pub within_ends : (os : List ObjectParts) → sum_by init_room os + sum_by bss_r
 within_ends os h =
     let init = extent-le-rooms init_size os in
     let bss = extent-le-rooms bss_size os in
-    elim (extent bss_size os == 0) as (λ (b : Bool). cond b (extent init_size os) (sum_by init_room os + extent bss_size os) ≤ 33554432) [ true ↦ omega (arith, init) | false ↦ omega (arith, bss) ]
+    elim (extent bss_size os == 0) as (λ (b : Bool). cond b (extent init_size os) (sum_by init_room os + extent bss_size os) ≤ 33554432)
+    [ true ↦ omega (arith, init) | false ↦ omega (arith, bss) ]
 
 pub memory_limit : (os : List ObjectParts) → nat_lt 33554432 (memory_end os) ≡ nat_lt 33554432 (sum_by init_room os + sum_by bss_room os)
 memory_limit os = by (nat_lt 33554432 (memory_end os)) (nat_lt 33554432 (sum_by init_room os + sum_by bss_room os)) refl refl where
@@ -146,12 +159,16 @@ pub record FitsAt (os : List ObjectParts) (i : ℕ) (o : ObjectParts) : Type 0 w
 pub fits_at : (os : List ObjectParts) (i : ℕ) (o : ObjectParts) → IsWithin (totals os) → i < length os → get_or os i o ≡ o → FitsAt os i o
 unfolding totals
 fits_at os i o within lt is =
-    let text : sum_by text_room (take i os) + text_room o ≤ sum_by text_room os = subst (λ (p : ObjectParts). sum_by text_room (take i os) + text_room p ≤ sum_by text_room os) is (sum_by_more_le text_room os i o lt) in
-    let init : sum_by init_room (take i os) + init_room o ≤ sum_by init_room os = subst (λ (p : ObjectParts). sum_by init_room (take i os) + init_room p ≤ sum_by init_room os) is (sum_by_more_le init_room os i o lt) in
-    let bss : sum_by bss_room (take i os) + bss_room o ≤ sum_by bss_room os = subst (λ (p : ObjectParts). sum_by bss_room (take i os) + bss_room p ≤ sum_by bss_room os) is (sum_by_more_le bss_room os i o lt) in
+    let text : sum_by text_room (take i os) + text_room o ≤ sum_by text_room os =
+    subst (λ (p : ObjectParts). sum_by text_room (take i os) + text_room p ≤ sum_by text_room os) is (sum_by_more_le text_room os i o lt) in
+    let init : sum_by init_room (take i os) + init_room o ≤ sum_by init_room os =
+    subst (λ (p : ObjectParts). sum_by init_room (take i os) + init_room p ≤ sum_by init_room os) is (sum_by_more_le init_room os i o lt) in
+    let bss : sum_by bss_room (take i os) + bss_room o ≤ sum_by bss_room os =
+    subst (λ (p : ObjectParts). sum_by bss_room (take i os) + bss_room p ≤ sum_by bss_room os) is (sum_by_more_le bss_room os i o lt) in
     record { text = omega (arith, within.text); init = omega (arith, within.memory); bss = omega (arith, within.memory) }
 
-pub sum-more : (f : ObjectParts → ℕ) (os : List ObjectParts) (i : ℕ) (o : ObjectParts) → i < length os → get_or os i o ≡ o → sum_by f (take (i + 1) os) ≡ sum_by f (take i os) + f o
+pub sum-more : (f : ObjectParts → ℕ) (os : List ObjectParts) (i : ℕ) (o : ObjectParts) → i < length os → get_or os i o ≡ o
+    → sum_by f (take (i + 1) os) ≡ sum_by f (take i os) + f o
 sum-more f os i o lt is = sum_by_more f os i o lt ∙ ap (λ (p : ObjectParts). sum_by f (take i os) + f p) is
 
 -- an extent keeps within its rooms
@@ -167,7 +184,9 @@ text_end-le (p ∷ q ∷ os) = omega (arith, sum_by-cons text_room p (q ∷ os),
 pub init_end-le : (os : List ObjectParts) → extent init_size os ≤ memory_end os
 init_end-le os =
     let init = extent-le-rooms init_size os in
-    elim (extent bss_size os == 0) as (λ (b : Bool). extent init_size os ≤ cond b (extent init_size os) (sum_by init_room os + extent bss_size os)) [ true ↦ omega arith | false ↦ omega (arith, init) ]
+    elim (extent bss_size os == 0) as
+    (λ (b : Bool). extent init_size os ≤ cond b (extent init_size os) (sum_by init_room os + extent bss_size os))
+    [ true ↦ omega arith | false ↦ omega (arith, init) ]
 
 pub memory_fits : (os : List ObjectParts) → IsWithin (totals os) → memory_end os ≤ 33554432
 unfolding totals

@@ -20,11 +20,14 @@ some_cond : (b : Bool) (t : Target) (r : Option Target) → is_some (cond b (Som
 some_cond true t r = refl
 some_cond false t r = refl
 
-pub holds_is : (name : List ℕ) (es : List (Vec ℕ × Target)) → is_some (entries.lookup (λ k. bytes_eq name k.items) es) ≡ holds (map (λ d. d.0) (named es)) name
+pub holds_is : (name : List ℕ) (es : List (Vec ℕ × Target)) → is_some (entries.lookup (λ k. bytes_eq name k.items) es) ≡ holds
+    (map (λ d. d.0) (named es)) name
 holds_is name [] = refl
-holds_is name (e ∷ es) = some_cond (bytes_eq name e.0.items) e.1 (entries.lookup (λ k. bytes_eq name k.items) es) ∙ ap (λ (b : Bool). bytes_eq name e.0.items || b) (holds_is name es)
+holds_is name (e ∷ es) = some_cond (bytes_eq name e.0.items) e.1 (entries.lookup (λ k. bytes_eq name k.items) es)
+    ∙ ap (λ (b : Bool). bytes_eq name e.0.items || b) (holds_is name es)
 
-pub named-insert : (es : List (Vec ℕ × Target)) (k : Vec ℕ) (t : Target) → holds (map (λ d. d.0) (named es)) k.items ≡ false → named (insert_entry (λ a b. bytes_eq a.items b.items) es k t) ≡ named es ++ (k.items, t) ∷ []
+pub named-insert : (es : List (Vec ℕ × Target)) (k : Vec ℕ) (t : Target) → holds (map (λ d. d.0) (named es)) k.items ≡ false
+    → named (insert_entry (λ a b. bytes_eq a.items b.items) es k t) ≡ named es ++ (k.items, t) ∷ []
 named-insert [] k t h = refl
 named-insert (e ∷ es) k t h =
     let parts = or_parts (bytes_eq k.items e.0.items) (holds (map (λ d. d.0) (named es)) k.items) h in

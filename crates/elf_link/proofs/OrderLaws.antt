@@ -29,24 +29,30 @@ record IsFrom (test : ℕ × ObjectParts → Option LinkCause) (n : ℕ) (os : L
   cause : test (n + index, object) ≡ Some r.cause
   before : (j : ℕ) (o : ObjectParts) → j < index → slice_get os j ≡ Some o → test (n + j, o) ≡ None
 
-at_zero : (test : ℕ × ObjectParts → Option LinkCause) (n : ℕ) (o : ObjectParts) (y : Option LinkCause) → test (n, o) ≡ y → test (n + 0, o) ≡ y
+at_zero : (test : ℕ × ObjectParts → Option LinkCause) (n : ℕ) (o : ObjectParts) (y : Option LinkCause) → test (n, o) ≡ y
+    → test (n + 0, o) ≡ y
 at_zero test n o y h = ap (λ (m : ℕ). test (m, o)) (omega arith) ∙ h
 
-at_next : (test : ℕ × ObjectParts → Option LinkCause) (n k : ℕ) (o : ObjectParts) (y : Option LinkCause) → test (n + 1 + k, o) ≡ y → test (n + suc k, o) ≡ y
+at_next : (test : ℕ × ObjectParts → Option LinkCause) (n k : ℕ) (o : ObjectParts) (y : Option LinkCause) → test (n + 1 + k, o) ≡ y
+    → test (n + suc k, o) ≡ y
 at_next test n k o y h = ap (λ (m : ℕ). test (m, o)) (omega arith) ∙ h
 
 module _ (test : ℕ × ObjectParts → Option LinkCause) where
-  before_next : (n : ℕ) (x : ObjectParts) (xs : List ObjectParts) (r : Refused) (rest : IsFrom test (n + 1) xs r) → test (n, x) ≡ None → (j : ℕ) (o : ObjectParts) → j < suc rest.index → slice_get (x ∷ xs) j ≡ Some o → test (n + j, o) ≡ None
+  before_next : (n : ℕ) (x : ObjectParts) (xs : List ObjectParts) (r : Refused) (rest : IsFrom test (n + 1) xs r) → test (n, x) ≡ None
+      → (j : ℕ) (o : ObjectParts) → j < suc rest.index → slice_get (x ∷ xs) j ≡ Some o → test (n + j, o) ≡ None
   before_next n x xs r rest none zero o lt at =
       let same : x ≡ o = cc in
       at_zero test n o None (ap (λ (p : ObjectParts). test (n, p)) (sym same) ∙ none)
   before_next n x xs r rest none (suc j) o lt at = at_next test n j o None (rest.before j o (omega arith) at)
 
-  first_from : (n : ℕ) (os : List ObjectParts) (r : Refused) → first_some (λ p. refused p.0 (test p)) (enumerate_from n os) ≡ Some r → IsFrom test n os r
+  first_from : (n : ℕ) (os : List ObjectParts) (r : Refused) → first_some (λ p. refused p.0 (test p)) (enumerate_from n os) ≡ Some r
+      → IsFrom test n os r
   unfolding first_some
   first_from n [] r h = absurd (cc)
   first_from n (x ∷ xs) r h = by (first_from (n + 1) xs r) (test (n, x)) refl h where
-    by : (first_some (λ p. refused p.0 (test p)) (enumerate_from (n + 1) xs) ≡ Some r → IsFrom test (n + 1) xs r) → (c : Option LinkCause) → test (n, x) ≡ c → option_or (refused n c) (first_some (λ p. refused p.0 (test p)) (enumerate_from (n + 1) xs)) ≡ Some r → IsFrom test n (x ∷ xs) r
+    by : (first_some (λ p. refused p.0 (test p)) (enumerate_from (n + 1) xs) ≡ Some r → IsFrom test (n + 1) xs r) → (c : Option LinkCause)
+        → test (n, x) ≡ c → option_or (refused n c) (first_some (λ p. refused p.0 (test p)) (enumerate_from (n + 1) xs)) ≡ Some r
+        → IsFrom test n (x ∷ xs) r
     by ih (Some c) e h =
         let same : record { object = n; cause = c } ≡ r = cc in
         record {
@@ -68,11 +74,15 @@ module _ (test : ℕ × ObjectParts → Option LinkCause) where
           before = before_next n x xs r rest e;
         }
 
-  none_from : (n : ℕ) (os : List ObjectParts) → first_some (λ p. refused p.0 (test p)) (enumerate_from n os) ≡ None → (i : ℕ) (o : ObjectParts) → slice_get os i ≡ Some o → test (n + i, o) ≡ None
+  none_from : (n : ℕ) (os : List ObjectParts) → first_some (λ p. refused p.0 (test p)) (enumerate_from n os) ≡ None
+      → (i : ℕ) (o : ObjectParts) → slice_get os i ≡ Some o → test (n + i, o) ≡ None
   unfolding first_some
   none_from n [] h i o at = absurd (cc)
   none_from n (x ∷ xs) h i o at = by (none_from (n + 1) xs) (test (n, x)) refl h i at where
-    by : (first_some (λ p. refused p.0 (test p)) (enumerate_from (n + 1) xs) ≡ None → (i : ℕ) (o : ObjectParts) → slice_get xs i ≡ Some o → test (n + 1 + i, o) ≡ None) → (c : Option LinkCause) → test (n, x) ≡ c → option_or (refused n c) (first_some (λ p. refused p.0 (test p)) (enumerate_from (n + 1) xs)) ≡ None → (i : ℕ) → slice_get (x ∷ xs) i ≡ Some o → test (n + i, o) ≡ None
+    by : (first_some (λ p. refused p.0 (test p)) (enumerate_from (n + 1) xs) ≡ None → (i : ℕ) (o : ObjectParts) → slice_get xs i ≡ Some o
+        → test (n + 1 + i, o) ≡ None) → (c : Option LinkCause) → test (n, x) ≡ c
+        → option_or (refused n c) (first_some (λ p. refused p.0 (test p)) (enumerate_from (n + 1) xs)) ≡ None → (i : ℕ)
+        → slice_get (x ∷ xs) i ≡ Some o → test (n + i, o) ≡ None
     by ih (Some c) e h i at = absurd (cc)
     by ih None e h zero at =
         let same : x ≡ o = cc in
@@ -90,10 +100,12 @@ module _ (test : ℕ × ObjectParts → Option LinkCause) where
         before = λ j o lt at. ap (λ (k : ℕ). test (k, o)) (sym (plus j)) ∙ is.before j o (omega (arith, number)) at;
       }
 
-  pub first_refused : (os : List ObjectParts) (r : Refused) → first_some (λ p. refused p.0 (test p)) (numbered os) ≡ Some r → IsFirstRefused test os r
+  pub first_refused : (os : List ObjectParts) (r : Refused) → first_some (λ p. refused p.0 (test p)) (numbered os) ≡ Some r
+      → IsFirstRefused test os r
   first_refused os r h = from_zero os r (first_from 0 os r h)
 
-  pub none_refused : (os : List ObjectParts) → first_some (λ p. refused p.0 (test p)) (numbered os) ≡ None → (i : ℕ) (o : ObjectParts) → slice_get os i ≡ Some o → test (i, o) ≡ None
+  pub none_refused : (os : List ObjectParts) → first_some (λ p. refused p.0 (test p)) (numbered os) ≡ None → (i : ℕ) (o : ObjectParts)
+      → slice_get os i ≡ Some o → test (i, o) ≡ None
   none_refused os h i o at =
       let plus : 0 + i ≡ i = omega arith in
       ap (λ (k : ℕ). test (k, o)) (sym plus) ∙ none_from 0 os h i o at
@@ -105,11 +117,13 @@ module _ (test : Reloc → Option LinkCause) where
   unfolding first_some
   first_cause [] cause h = absurd (cc)
   first_cause (x ∷ xs) cause h = by (first_cause xs cause) (test x) refl h where
-    at : (rest : IsFirstCause test xs cause) → test x ≡ None → (j : ℕ) (r : Reloc) → j < suc rest.index → slice_get (x ∷ xs) j ≡ Some r → test r ≡ None
+    at : (rest : IsFirstCause test xs cause) → test x ≡ None → (j : ℕ) (r : Reloc) → j < suc rest.index
+        → slice_get (x ∷ xs) j ≡ Some r → test r ≡ None
     at rest none zero r lt here = let same : x ≡ r = cc in ap test (sym same) ∙ none
     at rest none (suc j) r lt here = rest.before j r (omega arith) here
 
-    by : (first_some test xs ≡ Some cause → IsFirstCause test xs cause) → (c : Option LinkCause) → test x ≡ c → option_or c (first_some test xs) ≡ Some cause → IsFirstCause test (x ∷ xs) cause
+    by : (first_some test xs ≡ Some cause → IsFirstCause test xs cause) → (c : Option LinkCause) → test x ≡ c
+        → option_or c (first_some test xs) ≡ Some cause → IsFirstCause test (x ∷ xs) cause
     by ih (Some c) e h = record { index = 0; reloc = x; there = refl; caused = e ∙ h; before = λ j r lt here. absurd (omega arith) }
     by ih None e h =
         let rest = ih h in
@@ -119,7 +133,8 @@ module _ (test : Reloc → Option LinkCause) where
   unfolding first_some
   no_cause [] h k r at = absurd (cc)
   no_cause (x ∷ xs) h k r at = by (no_cause xs) (test x) refl h k at where
-    by : (first_some test xs ≡ None → (k : ℕ) (r : Reloc) → slice_get xs k ≡ Some r → test r ≡ None) → (c : Option LinkCause) → test x ≡ c → option_or c (first_some test xs) ≡ None → (k : ℕ) → slice_get (x ∷ xs) k ≡ Some r → test r ≡ None
+    by : (first_some test xs ≡ None → (k : ℕ) (r : Reloc) → slice_get xs k ≡ Some r → test r ≡ None) → (c : Option LinkCause) → test x ≡ c
+        → option_or c (first_some test xs) ≡ None → (k : ℕ) → slice_get (x ∷ xs) k ≡ Some r → test r ≡ None
     by ih (Some c) e h k at = absurd (cc)
     by ih None e h zero at = let same : x ≡ r = cc in ap test (sym same) ∙ e
     by ih None e h (suc k) at = ih h k r at
@@ -143,7 +158,8 @@ module _ (os : List ObjectParts) (p : ℕ × ObjectParts) where
   unfolding object_cause
   sites_fourth a b c h = rw (le-ltb _ _ a, le-ltb _ _ b, le-ltb _ _ c, h) refl
 
-  pub names_last : TextFits os p → MemoryFits os p → SymbolsFit os p → sites_wrong os p ≡ false → object_cause os p ≡ doubled_cause (doubled os p)
+  pub names_last : TextFits os p → MemoryFits os p → SymbolsFit os p → sites_wrong os p ≡ false
+      → object_cause os p ≡ doubled_cause (doubled os p)
   unfolding object_cause
   names_last a b c h = rw (le-ltb _ _ a, le-ltb _ _ b, le-ltb _ _ c, h) refl
 
@@ -175,7 +191,8 @@ module _ (os : List ObjectParts) (p : ℕ × ObjectParts) where
   unfolding sites_wrong
   malformed at h = rw h refl
 
-  pub past_text : (sites : SitesParts) (k : ℕ) (s : Site) → sites_in p.1.sites ≡ Ok sites → slice_get sites.list k ≡ Some s → length p.1.text < s.at + s.total → sites_wrong os p ≡ true
+  pub past_text : (sites : SitesParts) (k : ℕ) (s : Site) → sites_in p.1.sites ≡ Ok sites → slice_get sites.list k ≡ Some s
+      → length p.1.text < s.at + s.total → sites_wrong os p ≡ true
   unfolding sites_wrong
   past_text sites k s h at past = rw (h, any_at (λ s. nat_lt (length p.1.text) (s.at + s.total)) sites.list k s at (lt-ltb _ _ past)) refl
 
@@ -185,12 +202,19 @@ module _ (os : List ObjectParts) (p : ℕ × ObjectParts) where
 
   pub gaps_wrong : crowded os (p.0 + 1) ≡ true → sites_wrong os p ≡ true
   unfolding sites_wrong
-  gaps_wrong h = third_true (misplaced (length p.1.text) (sites_in p.1.sites)) (nat_lt SITE_LIMIT (sum_by (λ o. length (sites_of o)) (up_to os p))) _ h
+  gaps_wrong h =
+      third_true (misplaced (length p.1.text) (sites_in p.1.sites)) (nat_lt SITE_LIMIT (sum_by (λ o. length (sites_of o)) (up_to os p))) _ h
 
-  pub sites_right : (sites : SitesParts) → sites_in p.1.sites ≡ Ok sites → AreInText p.1 sites.list → sum_by (λ o. length (sites_of o)) (up_to os p) ≤ SITE_LIMIT → crowded os (p.0 + 1) ≡ false → sites_wrong os p ≡ false
+  pub sites_right : (sites : SitesParts) → sites_in p.1.sites ≡ Ok sites → AreInText p.1 sites.list
+      → sum_by (λ o. length (sites_of o)) (up_to os p) ≤ SITE_LIMIT → crowded os (p.0 + 1) ≡ false → sites_wrong os p ≡ false
   unfolding sites_wrong
   sites_right sites h inside few gaps =
-      rw (h, none_of (λ s. nat_lt (length p.1.text) (s.at + s.total)) sites.list (λ k s at. le-ltb _ _ (inside k s at)), le-ltb _ _ few, gaps) refl
+      rw (
+        h,
+        none_of (λ s. nat_lt (length p.1.text) (s.at + s.total)) sites.list (λ k s at. le-ltb _ _ (inside k s at)),
+        le-ltb _ _ few,
+        gaps,
+      ) refl
 
 -- ---- the stages
 
@@ -199,19 +223,25 @@ module _ (os : List ObjectParts) where
   unfolding refusal
   objects_first r h = rw h refl
 
-  pub relocs_second : (r : Refused) → first_some (object_refusal os) (numbered os) ≡ None → first_some (relocs_refusal os) (numbered os) ≡ Some r → refusal os ≡ Some r
+  pub relocs_second : (r : Refused) → first_some (object_refusal os) (numbered os) ≡ None
+      → first_some (relocs_refusal os) (numbered os) ≡ Some r → refusal os ≡ Some r
   unfolding refusal
   relocs_second r a h = rw (a, h) refl
 
-  start_last : first_some (object_refusal os) (numbered os) ≡ None → first_some (relocs_refusal os) (numbered os) ≡ None → refusal os ≡ start_refusal (start os)
+  start_last : first_some (object_refusal os) (numbered os) ≡ None → first_some (relocs_refusal os) (numbered os) ≡ None
+      → refusal os ≡ start_refusal (start os)
   unfolding refusal
   start_last a b = rw (a, b) refl
 
-  pub no_start : first_some (object_refusal os) (numbered os) ≡ None → first_some (relocs_refusal os) (numbered os) ≡ None → start os ≡ None → refusal os ≡ None
+  pub no_start : first_some (object_refusal os) (numbered os) ≡ None → first_some (relocs_refusal os) (numbered os) ≡ None
+      → start os ≡ None → refusal os ≡ None
   no_start a b h = start_last a b ∙ ap start_refusal h
 
-  pub start_in_text : (t : Target) → first_some (object_refusal os) (numbered os) ≡ None → first_some (relocs_refusal os) (numbered os) ≡ None → start os ≡ Some t → is_text t.place ≡ true → refusal os ≡ None
+  pub start_in_text : (t : Target) → first_some (object_refusal os) (numbered os) ≡ None
+      → first_some (relocs_refusal os) (numbered os) ≡ None → start os ≡ Some t → is_text t.place ≡ true → refusal os ≡ None
   start_in_text t a b h inside = start_last a b ∙ (ap start_refusal h ∙ rw inside refl)
 
-  pub start_elsewhere : (t : Target) → first_some (object_refusal os) (numbered os) ≡ None → first_some (relocs_refusal os) (numbered os) ≡ None → start os ≡ Some t → is_text t.place ≡ false → refusal os ≡ Some (record { object = t.object; cause = NotText t.value })
+  pub start_elsewhere : (t : Target) → first_some (object_refusal os) (numbered os) ≡ None
+      → first_some (relocs_refusal os) (numbered os) ≡ None → start os ≡ Some t → is_text t.place ≡ false
+      → refusal os ≡ Some (record { object = t.object; cause = NotText t.value })
   start_elsewhere t a b h outside = start_last a b ∙ (ap start_refusal h ∙ rw outside refl)

@@ -11,7 +11,8 @@ pub record Spans (size : ObjectParts → ℕ) (os : List ObjectParts) (i : ℕ) 
   pub room : span.room ≡ sum_by (room_of size) (take i os)
   pub end : span.end ≡ extent size (take i os)
 
-pub spans_next : (size : ObjectParts → ℕ) (os : List ObjectParts) (i : ℕ) (o : ObjectParts) (span new : Span) (n : ℕ) → i < length os → get_or os i o ≡ o → n ≡ size o → Spans size os i span → new ≡ behind span n → Spans size os (i + 1) new
+pub spans_next : (size : ObjectParts → ℕ) (os : List ObjectParts) (i : ℕ) (o : ObjectParts) (span new : Span) (n : ℕ) → i < length os
+    → get_or os i o ≡ o → n ≡ size o → Spans size os i span → new ≡ behind span n → Spans size os (i + 1) new
 spans_next size os i o span new n lt is e now step = record {
   room = ap (λ (s : Span). s.room) step ∙ rw (e, now.room) (sym (sum-more (room_of size) os i o lt is));
   end = ap (λ (s : Span). s.end) step ∙ rw (e, now.room, now.end) (sym (extent-more size os i o lt is));

@@ -39,7 +39,15 @@ abbrev pub entry_at : List Base → Option Target → ℕ
 entry_at bs start = option_map_or (address bs) start TEXT_ADDRESS
 
 unfoldable pub image : List ObjectParts → ImageParts
-image os = record { text = linked_text os; init = linked_init os; bss = memory_end os - init_end os; entry = entry_at (bases os) (start os); text_at = TEXT_ADDRESS; init_at = DATA_ADDRESS; sites = spelling (in_text (length (linked_text os)) (linked_sites os)) }
+image os = record {
+  text = linked_text os;
+  init = linked_init os;
+  bss = memory_end os - init_end os;
+  entry = entry_at (bases os) (start os);
+  text_at = TEXT_ADDRESS;
+  init_at = DATA_ADDRESS;
+  sites = spelling (in_text (length (linked_text os)) (linked_sites os));
+}
 
 -- the image, or the first refusal
 unfoldable pub linked_image : List ObjectParts → Result ImageParts Refused

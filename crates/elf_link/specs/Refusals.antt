@@ -63,7 +63,8 @@ abbrev pub start : List ObjectParts → Option Target
 start os = lookup (codes "_start") (globals os)
 
 abbrev pub start_refusal : Option Target → Option Refused
-start_refusal start = option_and_then (λ t. if is_text t.place then None else Some (record { object = t.object; cause = NotText t.value })) start
+start_refusal start =
+    option_and_then (λ t. if is_text t.place then None else Some (record { object = t.object; cause = NotText t.value })) start
 
 -- each object; then the relocations of each object; then the entry
 unfoldable pub refusal : List ObjectParts → Option Refused

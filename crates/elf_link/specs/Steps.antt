@@ -28,10 +28,20 @@ behind span n = record { room = span.room + round_up 4096 n; end = if n == 0 the
 
 -- the sums over objects
 unfoldable pub totals : List ObjectParts → Totals
-totals os = record { text = sum_by text_room os; memory = sum_by init_room os + sum_by bss_room os; symbols = sum_by (λ o. length o.symbols) os; sites = sum_by (λ o. length (sites_of o)) os }
+totals os = record {
+  text = sum_by text_room os;
+  memory = sum_by init_room os + sum_by bss_room os;
+  symbols = sum_by (λ o. length o.symbols) os;
+  sites = sum_by (λ o. length (sites_of o)) os;
+}
 
 unfoldable pub with_object : Totals → ObjectParts → Totals
-with_object t o = record { text = t.text + text_room o; memory = t.memory + init_room o + bss_room o; symbols = t.symbols + length o.symbols; sites = t.sites + length (sites_of o) }
+with_object t o = record {
+  text = t.text + text_room o;
+  memory = t.memory + init_room o + bss_room o;
+  symbols = t.symbols + length o.symbols;
+  sites = t.sites + length (sites_of o);
+}
 
 pub record IsWithin (t : Totals) : Type 0 where
   pub text : t.text < TEXT_LIMIT + 16

@@ -63,34 +63,46 @@ stack user cpu = search (steps, inner) depth 8
 
 -- ---- what is pushed
 
-returned : {user : Bool} (cpu : Cpu) (start len at : ℕ) → start ≤ at → at + 12 ≤ start + len → Made denials user (Unit {0}) (start, len) (start, len) (push_return cpu at)
+returned : {user : Bool} (cpu : Cpu) (start len at : ℕ) → start ≤ at → at + 12 ≤ start + len
+    → Made denials user (Unit {0}) (start, len) (start, len) (push_return cpu at)
 unfolding push_return
 returned cpu start len at low high =
     Made.follows (Made.writing at Long cpu.regs.eip low (omega (arith, high)))
-    (λ done. Made.follows (Made.writing (at + 4) Long (seg_of cpu 1).sel (omega (arith, low)) (omega (arith, high))) (λ done. Made.writing (at + 8) Long cpu.regs.flags.bits (omega (arith, low)) (omega (arith, high))))
+    (λ done. Made.follows (Made.writing (at + 4) Long (seg_of cpu 1).sel (omega (arith, low)) (omega (arith, high)))
+    (λ done. Made.writing (at + 8) Long cpu.regs.flags.bits (omega (arith, low)) (omega (arith, high))))
 
-outer : {user : Bool} (cpu : Cpu) (start len at : ℕ) (inner : Bool) → start ≤ at → at + 12 + cond inner 8 0 ≤ start + len → Made denials user (Unit {0}) (start, len) (start, len) (push_outer cpu inner at)
+outer : {user : Bool} (cpu : Cpu) (start len at : ℕ) (inner : Bool) → start ≤ at → at + 12 + cond inner 8 0 ≤ start + len
+    → Made denials user (Unit {0}) (start, len) (start, len) (push_outer cpu inner at)
 outer cpu start len at false low high = Made.given tt
 outer cpu start len at true low high =
-    Made.follows (Made.writing (at + 12) Long (slice_index cpu.regs.r 4) (omega (arith, low)) (omega (arith, high))) (λ done. Made.writing (at + 16) Long (seg_of cpu 2).sel (omega (arith, low)) (omega (arith, high)))
+    Made.follows (Made.writing (at + 12) Long (slice_index cpu.regs.r 4) (omega (arith, low)) (omega (arith, high)))
+    (λ done. Made.writing (at + 16) Long (seg_of cpu 2).sel (omega (arith, low)) (omega (arith, high)))
 
 -- after the error code
-rest : {user : Bool} (cpu : Cpu) (top start len at : ℕ) (inner : Bool) → start ≤ at → at + 12 + cond inner 8 0 ≤ start + len → Made denials user ℕ (start, len) (start, len) (push_return cpu at >>= (λ done. push_outer cpu inner at >>= (λ done. gives top)))
+rest : {user : Bool} (cpu : Cpu) (top start len at : ℕ) (inner : Bool) → start ≤ at → at + 12 + cond inner 8 0 ≤ start + len
+    → Made denials user ℕ (start, len) (start, len) (push_return cpu at >>= (λ done. push_outer cpu inner at >>= (λ done. gives top)))
 rest cpu top start len at inner low high =
-    Made.follows (returned cpu start len at low (omega (arith, high))) (λ done. Made.follows (outer cpu start len at inner low high) (λ done. Made.given top))
+    Made.follows (returned cpu start len at low (omega (arith, high)))
+    (λ done. Made.follows (outer cpu start len at inner low high) (λ done. Made.given top))
 
 whole : {user : Bool} (cpu : Cpu) (top : ℕ) (inner : Bool) (c : Option ℕ)
-    → Made denials user ℕ (top, (pushed inner c)) (top, (pushed inner c)) (push_code c top >>= (λ at. push_return cpu at >>= (λ done. push_outer cpu inner at >>= (λ done. gives top))))
+    → Made denials user ℕ (top, (pushed inner c)) (top, (pushed inner c))
+    (push_code c top >>= (λ at. push_return cpu at >>= (λ done. push_outer cpu inner at >>= (λ done. gives top))))
 whole {user = user} cpu top inner None = then_gives (rest cpu top top (pushed inner None) top inner (omega arith) (omega arith))
   where
-    then_gives : Made denials user ℕ (top, (pushed inner None)) (top, (pushed inner None)) (push_return cpu top >>= (λ done. push_outer cpu inner top >>= (λ done. gives top)))
-        → Made denials user ℕ (top, (pushed inner None)) (top, (pushed inner None)) (push_code None top >>= (λ at. push_return cpu at >>= (λ done. push_outer cpu inner at >>= (λ done. gives top))))
+    then_gives : Made denials user ℕ (top, (pushed inner None)) (top, (pushed inner None))
+        (push_return cpu top >>= (λ done. push_outer cpu inner top >>= (λ done. gives top)))
+        → Made denials user ℕ (top, (pushed inner None)) (top, (pushed inner None))
+        (push_code None top >>= (λ at. push_return cpu at >>= (λ done. push_outer cpu inner at >>= (λ done. gives top))))
     then_gives h = h
 whole {user = user} cpu top inner (Some code) =
-    then_coded (Made.follows (Made.writing top Long code (omega arith) (omega arith)) (λ done. rest cpu top top (pushed inner (Some code)) (top + 4) inner (omega arith) (omega arith)))
+    then_coded (Made.follows (Made.writing top Long code (omega arith) (omega arith))
+    (λ done. rest cpu top top (pushed inner (Some code)) (top + 4) inner (omega arith) (omega arith)))
   where
-    then_coded : Made denials user ℕ (top, (pushed inner (Some code))) (top, (pushed inner (Some code))) (writes top Long code >>= (λ done. push_return cpu (top + 4) >>= (λ done. push_outer cpu inner (top + 4) >>= (λ done. gives top))))
-        → Made denials user ℕ (top, (pushed inner (Some code))) (top, (pushed inner (Some code))) (push_code (Some code) top >>= (λ at. push_return cpu at >>= (λ done. push_outer cpu inner at >>= (λ done. gives top))))
+    then_coded : Made denials user ℕ (top, (pushed inner (Some code))) (top, (pushed inner (Some code)))
+        (writes top Long code >>= (λ done. push_return cpu (top + 4) >>= (λ done. push_outer cpu inner (top + 4) >>= (λ done. gives top))))
+        → Made denials user ℕ (top, (pushed inner (Some code))) (top, (pushed inner (Some code)))
+        (push_code (Some code) top >>= (λ at. push_return cpu at >>= (λ done. push_outer cpu inner at >>= (λ done. gives top))))
     then_coded h = h
 
 few : (inner : Bool) (c : Option ℕ) → pushed inner c ≤ 4096
@@ -109,7 +121,8 @@ frame : (user : Bool) (cpu : Cpu) (s : Stack) (c : Option ℕ) → Steps denials
 unfolding push_frame
 frame user cpu s c =
     let top : ℕ = (s.top + 2 ^ 32 - pushed s.inner c) % 2 ^ 32 in
-    opened_then (top, pushed s.inner c) (Made.opened top (pushed s.inner c) (by_processor true) (λ low. refl) refl (some s.inner c) (few s.inner c)) (λ done. whole cpu top s.inner c)
+    opened_then (top, pushed s.inner c) (Made.opened top (pushed s.inner c) (by_processor true) (λ low. refl) refl (some s.inner c)
+    (few s.inner c)) (λ done. whole cpu top s.inner c)
 
 marks : (user : Bool) (cpu : Cpu) (sel : ℕ) (m : Option ℕ) → Steps denials user (mark denials cpu sel m)
 marks user cpu sel m = mark_steps denials user cpu sel m

@@ -19,20 +19,30 @@ pub frame-above : (m m' : List ℕ) (limit f : ℕ) → limit ≤ 4096 * f → d
 unfolding frame part
 frame-above m m' limit f h e = ap (take 4096) (drop-above m m' limit (4096 * f) h e)
 
-module _ (p : Pool) (m m' : List ℕ) (limit : ℕ) (l : limit ≤ 4096 * base_of p) (e : drop limit m' ≡ drop limit m) (size : length m' ≡ length m) where
+module _ (p : Pool) (m m' : List ℕ) (limit : ℕ) (l : limit ≤ 4096 * base_of p) (e : drop limit m' ≡ drop limit m)
+    (size : length m' ≡ length m) where
   -- frames that are held are as they were
   pub SameIn-above : (fs : List ℕ) → Owns p m fs → SameIn fs m m'
-  SameIn-above fs o = record { size = size; frames = λ f h. frame-above m m' limit f (let low = (o.out f h).low in omega (arith, low, l)) e }
+  SameIn-above fs o =
+      record { size = size; frames = λ f h. frame-above m m' limit f (let low = (o.out f h).low in omega (arith, low, l)) e }
 
   free-above : Stands p m → SameIn (free_list p m) m m'
   free-above s =
-      record { size = size; frames = λ f h. frame-above m m' limit f (let w = times-within p.base p.count f (free_list p m) s.within h in let low = w.0 in omega (arith, low, l)) e }
+      record {
+        size = size;
+        frames = λ f h. frame-above m m' limit f (let w = times-within p.base p.count f (free_list p m) s.within h in
+            let low = w.0 in omega (arith, low, l)) e;
+      }
 
   -- and still out
   pub Owns-above : (fs : List ℕ) → Owns p m fs → Owns p m' fs
   Owns-above fs o =
       let free = free-above o.stands in
-      record { stands = Stands-apart p m m' o.stands free; out = λ f h. IsOut-same p m m' f (free_list-apart p m m' free) (o.out f h); once = o.once }
+      record {
+        stands = Stands-apart p m m' o.stands free;
+        out = λ f h. IsOut-same p m m' f (free_list-apart p m m' free) (o.out f h);
+        once = o.once;
+      }
 
   pub free_list-above : Stands p m → free_list p m' ≡ free_list p m
   free_list-above s = free_list-apart p m m' (free-above s)

@@ -66,13 +66,16 @@ give-memory p m f v s o =
     let fits = frame_fits p m f s o.high in let word : 4096 * f + 4 ≤ length m = omega arith in
     record { size = length-with_word32 m (4096 * f) v word; others = λ g ne. frame-with_first m f v g word ne }
 
-pub give-list : (p : Pool) (m : List ℕ) (f : ℕ) → Stands p m → IsOut p m f → p.head < 2 ^ 32 → chain (with_word32 m (4096 * f) p.head) (p.free + 1) f ≡ f ∷ free_list p m
+pub give-list : (p : Pool) (m : List ℕ) (f : ℕ) → Stands p m → IsOut p m f → p.head < 2 ^ 32
+    → chain (with_word32 m (4096 * f) p.head) (p.free + 1) f ≡ f ∷ free_list p m
 give-list p m f s o h =
     let m' = with_word32 m (4096 * f) p.head in
     let fits = frame_fits p m f s o.high in let word : 4096 * f + 4 ≤ length m = omega arith in
-    chain-more m' p.free f ∙ ap (λ (fs : List ℕ). f ∷ fs) (ap (chain m' p.free) (word32-with_word32 m (4096 * f) p.head word h) ∙ free_list-out p m m' f o (give-memory p m f p.head s o))
+    chain-more m' p.free f ∙ ap (λ (fs : List ℕ). f ∷ fs)
+    (ap (chain m' p.free) (word32-with_word32 m (4096 * f) p.head word h) ∙ free_list-out p m m' f o (give-memory p m f p.head s o))
 
-pub give-stands : (p p' : Pool) (m m' : List ℕ) (f : ℕ) → Stands p m → IsOut p m f → SameBut f m m' → p'.base ≡ p.base → p'.count ≡ p.count → free_list p' m' ≡ f ∷ free_list p m → Stands p' m'
+pub give-stands : (p p' : Pool) (m m' : List ℕ) (f : ℕ) → Stands p m → IsOut p m f → SameBut f m m' → p'.base ≡ p.base → p'.count ≡ p.count
+    → free_list p' m' ≡ f ∷ free_list p m → Stands p' m'
 give-stands p p' m m' f s o t b c e =
     let r = s.room in let l = t.size in
     record {
@@ -89,29 +92,35 @@ take-low p m s ne = let w = subst (AreWithin p.base p.count) (chain-some m p.fre
 pub take-fits : (p : Pool) (m : List ℕ) → Stands p m → p.free ≢ 0 → 4096 * p.head + 4096 ≤ length m
 take-fits p m s ne = frame_fits p m p.head s (take-low p m s ne)
 
-pub take-memory : (p : Pool) (m bs : List ℕ) → Stands p m → p.free ≢ 0 → length bs ≡ 4096 → SameBut p.head m (with_part m (4096 * p.head) bs)
+pub take-memory : (p : Pool) (m bs : List ℕ) → Stands p m → p.free ≢ 0 → length bs ≡ 4096
+    → SameBut p.head m (with_part m (4096 * p.head) bs)
 take-memory p m bs s ne l =
     let fits = take-fits p m s ne in
     record { size = length-with_part m (4096 * p.head) bs (omega arith); others = λ g n. frame-with_frame m p.head bs g fits l n }
 
-pub take-zeroed : (p : Pool) (m : List ℕ) → Stands p m → p.free ≢ 0 → frame (with_part m (4096 * p.head) (replicate 4096 0)) p.head ≡ replicate 4096 0
+pub take-zeroed : (p : Pool) (m : List ℕ) → Stands p m → p.free ≢ 0 → frame (with_part m (4096 * p.head) (replicate 4096 0))
+    p.head ≡ replicate 4096 0
 unfolding frame
 take-zeroed p m s ne =
     let fits = take-fits p m s ne in let long = length-replicate {A = ℕ} 4096 0 in
     part-with_part m (4096 * p.head) (replicate 4096 0) 4096 (omega (arith, fits, long)) (sym long)
 
-pub take-list : (p : Pool) (m m' : List ℕ) → Stands p m → p.free ≢ 0 → SameBut p.head m m' → free_list p m ≡ p.head ∷ chain m' (p.free - 1) (word32 m (4096 * p.head))
+pub take-list : (p : Pool) (m m' : List ℕ) → Stands p m → p.free ≢ 0 → SameBut p.head m m'
+    → free_list p m ≡ p.head ∷ chain m' (p.free - 1) (word32 m (4096 * p.head))
 take-list p m m' s ne t =
     let e = chain-some m p.free p.head ne in
     let d = subst AreDistinct e s.distinct in
-    e ∙ ap (λ (fs : List ℕ). p.head ∷ fs) (sym (chain-same m m' (p.free - 1) (word32 m (4096 * p.head)) (AreSame-from_but m m' p.head _ t d.0)))
+    e ∙ ap (λ (fs : List ℕ). p.head ∷ fs)
+    (sym (chain-same m m' (p.free - 1) (word32 m (4096 * p.head)) (AreSame-from_but m m' p.head _ t d.0)))
 
-pub take-stands : (p p' : Pool) (m m' : List ℕ) (f : ℕ) → Stands p m → length m' ≡ length m → p'.base ≡ p.base → p'.count ≡ p.count → free_list p m ≡ f ∷ free_list p' m' → Stands p' m'
+pub take-stands : (p p' : Pool) (m m' : List ℕ) (f : ℕ) → Stands p m → length m' ≡ length m → p'.base ≡ p.base → p'.count ≡ p.count
+    → free_list p m ≡ f ∷ free_list p' m' → Stands p' m'
 take-stands p p' m m' f s l b c e =
     let r = s.room in let w = subst (AreWithin p.base p.count) e s.within in let d = subst AreDistinct e s.distinct in
     record { room = rw (b, c, l) r; within = rw (b, c) w.2; distinct = d.1 }
 
-pub take-out : (p p' : Pool) (m m' : List ℕ) (f : ℕ) → Stands p m → p'.base ≡ p.base → p'.count ≡ p.count → free_list p m ≡ f ∷ free_list p' m' → IsOut p' m' f
+pub take-out : (p p' : Pool) (m m' : List ℕ) (f : ℕ) → Stands p m → p'.base ≡ p.base → p'.count ≡ p.count
+    → free_list p m ≡ f ∷ free_list p' m' → IsOut p' m' f
 take-out p p' m m' f s b c e =
     let w = subst (AreWithin p.base p.count) e s.within in let d = subst AreDistinct e s.distinct in
     record { low = rw b w.0; high = rw (b, c) w.1; out = d.0 }
@@ -128,8 +137,14 @@ SameOutside-more b n f m m' m'' s low high t =
 
 -- a pool none of whose frames is free
 pub Stands-none : (p : Pool) (m : List ℕ) → p.free ≡ 0 → 4096 * (p.base + p.count) ≤ length m → Stands p m
-Stands-none p m e r = let n = sym (chain-none m p.free p.head e) in record { room = r; within = subst (AreWithin p.base p.count) n tt; distinct = subst AreDistinct n tt }
+Stands-none p m e r = let n = sym (chain-none m p.free p.head e) in
+    record { room = r; within = subst (AreWithin p.base p.count) n tt; distinct = subst AreDistinct n tt }
 
-pub IsOut-next : (p : Pool) (m : List ℕ) (i : ℕ) → i < p.count → free_list p m ≡ frames_from (p.base + (p.count - i)) i → IsOut p m (p.base + (p.count - 1 - i))
+pub IsOut-next : (p : Pool) (m : List ℕ) (i : ℕ) → i < p.count → free_list p m ≡ frames_from (p.base + (p.count - i)) i
+    → IsOut p m (p.base + (p.count - 1 - i))
 IsOut-next p m i h e =
-    record { low = omega arith; high = omega arith; out = rw e (IsNotIn-frames_from (p.base + (p.count - 1 - i)) (p.base + (p.count - i)) i (omega arith)) }
+    record {
+      low = omega arith;
+      high = omega arith;
+      out = rw e (IsNotIn-frames_from (p.base + (p.count - 1 - i)) (p.base + (p.count - i)) i (omega arith));
+    }

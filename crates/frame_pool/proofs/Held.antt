@@ -13,7 +13,8 @@ pub Moves-from : (p p' : Pool) (m m' fs fs' : List ℕ) → length m' ≡ length
     → ((g : ℕ) → times g (free_list p m) ≡ 0 → times g fs ≡ 0 → frame m' g ≡ frame m g) → Moves p p' m m' fs fs'
 Moves-from p p' m m' fs fs' size same stands together others =
     let all = length-counts (free_list p' m' ++ fs') (free_list p m ++ fs) (λ f.
-    let t = together f in let a = times-append f (free_list p' m') fs' in let b = times-append f (free_list p m) fs in omega (arith, t, a, b)) in
+    let t = together f in let a =
+    times-append f (free_list p' m') fs' in let b = times-append f (free_list p m) fs in omega (arith, t, a, b)) in
     let now = length-append (free_list p' m') fs' in
     let was = length-append (free_list p m) fs in
     record {
@@ -25,7 +26,11 @@ Moves-from p p' m m' fs fs' size same stands together others =
       others = others;
       out = λ g o z.
           (let t = together g in let n = times-IsNotIn g (free_list p m) o.out in
-          record { low = rw same.0 o.low; high = rw (same.0, same.1) o.high; out = IsNotIn-times g (free_list p' m') (omega (arith, t, n, z)) });
+          record {
+            low = rw same.0 o.low;
+            high = rw (same.0, same.1) o.high;
+            out = IsNotIn-times g (free_list p' m') (omega (arith, t, n, z));
+          });
     }
 
 -- ---- frames that are held
@@ -65,17 +70,23 @@ Owns-moves p p' m m' fs fs' o v =
           (let t = v.together f in
           let s = Owns-sum p m fs o f in
           let w = Owns-within p m fs o f (omega (arith, t, h)) in
-          record { low = rw v.same.0 w.0; high = rw (v.same.0, v.same.1) w.1; out = IsNotIn-times f (free_list p' m') (omega (arith, t, s, h)) });
+          record {
+            low = rw v.same.0 w.0;
+            high = rw (v.same.0, v.same.1) w.1;
+            out = IsNotIn-times f (free_list p' m') (omega (arith, t, s, h));
+          });
       once = λ f. (let t = v.together f in let s = Owns-sum p m fs o f in omega (arith, t, s));
     }
 
-pub Moves-trans : (p p' p'' : Pool) (m m' m'' fs fs' fs'' : List ℕ) → Moves p p' m m' fs fs' → Moves p' p'' m' m'' fs' fs'' → Moves p p'' m m'' fs fs''
+pub Moves-trans : (p p' p'' : Pool) (m m' m'' fs fs' fs'' : List ℕ) → Moves p p' m m' fs fs' → Moves p' p'' m' m'' fs' fs''
+    → Moves p p'' m m'' fs fs''
 Moves-trans p p' p'' m m' m'' fs fs' fs'' v w =
     Moves-from p p'' m m'' fs fs'' (w.size ∙ v.size) (w.same.0 ∙ v.same.0, w.same.1 ∙ v.same.1) w.stands (λ f. w.together f ∙ v.together f)
     (λ g a b. (let t = v.together g in w.others g (omega (arith, t, a, b)) (omega (arith, t, a, b)) ∙ v.others g a b))
 
 -- what is written in frames that are held changes nothing of the pool
-free-same : (p : Pool) (m m' fs : List ℕ) → Owns p m fs → Writes fs m m' → (gs : List ℕ) → ((f : ℕ) → 1 ≤ times f gs → 1 ≤ times f (free_list p m)) → AreSame m m' gs
+free-same : (p : Pool) (m m' fs : List ℕ) → Owns p m fs → Writes fs m m' → (gs : List ℕ)
+    → ((f : ℕ) → 1 ≤ times f gs → 1 ≤ times f (free_list p m)) → AreSame m m' gs
 free-same p m m' fs o w [] h = tt
 free-same p m m' fs o w (g ∷ gs) h =
     let c = times-cons g g gs in let s = hit-self g in (
@@ -115,7 +126,8 @@ Moves-take p p' m m' fs f t =
     let s = hit-self f in let h = ap (λ x. hit x f) e in omega (arith, a, l, d, s, h))))
 
 -- what is held may be listed in another order
-pub Moves-counts : (p p' : Pool) (m m' fs fs' fs'' : List ℕ) → ((f : ℕ) → times f fs'' ≡ times f fs') → Moves p p' m m' fs fs' → Moves p p' m m' fs fs''
+pub Moves-counts : (p p' : Pool) (m m' fs fs' fs'' : List ℕ) → ((f : ℕ) → times f fs'' ≡ times f fs') → Moves p p' m m' fs fs'
+    → Moves p p' m m' fs fs''
 Moves-counts p p' m m' fs fs' fs'' e v =
     Moves-from p p' m m' fs fs'' v.size v.same v.stands (λ f. (let t = v.together f in let c = e f in omega (arith, t, c))) v.others
 
@@ -150,7 +162,8 @@ pub Moves-kept : (p : Pool) (m m' fs fs' : List ℕ) → Owns p m fs → fs' ≡
 Moves-kept p m m' fs fs' o e w = Moves-counts p p m m' fs fs fs' (λ f. ap (times f) e) (Moves-writes p m m' fs o w)
 
 -- a frame that is given back is held no more
-pub Moves-give : (p p' : Pool) (m m' fs : List ℕ) (f : ℕ) → free_list p' m' ≡ f ∷ free_list p m → Stands p' m' → SameFrames p p' → SameBut f m m' → Moves p p' m m' (f ∷ fs) fs
+pub Moves-give : (p p' : Pool) (m m' fs : List ℕ) (f : ℕ) → free_list p' m' ≡ f ∷ free_list p m → Stands p' m' → SameFrames p p'
+    → SameBut f m m' → Moves p p' m m' (f ∷ fs) fs
 Moves-give p p' m m' fs f list stands same but =
     Moves-from p p' m m' (f ∷ fs) fs but.size same stands
     (λ g. (let c = times-cons g f fs in let d = times-cons g f (free_list p m) in let e = ap (times g) list in omega (arith, c, d, e)))
@@ -192,8 +205,14 @@ Writes-more m m' fs gs w = record { size = w.size; others = λ g z. w.others g (
 -- the same frames in another order
 pub Owns-counts : (p : Pool) (m fs gs : List ℕ) → ((f : ℕ) → times f gs ≡ times f fs) → Owns p m fs → Owns p m gs
 Owns-counts p m fs gs e o =
-    record { stands = o.stands; out = λ f h. o.out f (let c = e f in omega (arith, c, h)); once = λ f. (let c = e f in let s = o.once f in omega (arith, c, s)) }
+    record {
+      stands = o.stands;
+      out = λ f h. o.out f (let c = e f in omega (arith, c, h));
+      once = λ f. (let c = e f in let s = o.once f in omega (arith, c, s));
+    }
 
-pub Moves-counts_from : (p p' : Pool) (m m' fs gs fs' : List ℕ) → ((f : ℕ) → times f gs ≡ times f fs) → Moves p p' m m' fs fs' → Moves p p' m m' gs fs'
+pub Moves-counts_from : (p p' : Pool) (m m' fs gs fs' : List ℕ) → ((f : ℕ) → times f gs ≡ times f fs) → Moves p p' m m' fs fs'
+    → Moves p p' m m' gs fs'
 Moves-counts_from p p' m m' fs gs fs' e v =
-    Moves-from p p' m m' gs fs' v.size v.same v.stands (λ f. (let t = v.together f in let c = e f in omega (arith, t, c))) (λ g a b. v.others g a (let c = e g in omega (arith, c, b)))
+    Moves-from p p' m m' gs fs' v.size v.same v.stands (λ f. (let t = v.together f in let c = e f in omega (arith, t, c)))
+    (λ g a b. v.others g a (let c = e g in omega (arith, c, b)))

@@ -8,7 +8,9 @@ use Rattle.guest_sched.specs.declared.kernel.Kernel.{Kernel}
 use Rattle.guest_sched.specs.declared.kernel.SharedFault.{SharedFault}
 use Rattle.guest_sched.specs.declared.schedule.Slice.{Slice}
 
-abbrev pub SharedAnswers : List Kernel → List Slice → ℕ → Option (List ℕ) → Option (List ℕ) → ℕ → ℕ → Counts → Counts → List ℕ → Result (Vec Ended Global) SharedFault → Type 0
+abbrev pub SharedAnswers : List Kernel → List Slice → ℕ → Option (List ℕ) → Option (List ℕ) → ℕ → ℕ → Counts → Counts → List ℕ
+    → Result (Vec Ended Global) SharedFault → Type 0
 SharedAnswers kernels slices frames old new before now counts counts_after memory result =
     answers.SharedAnswers kernels slices frames
-    (record { taken = old; taken_after = new; faults = before; faults_after = now; counts = counts; counts_after = counts_after }) memory result
+    (record { taken = old; taken_after = new; faults = before; faults_after = now; counts = counts; counts_after = counts_after }) memory
+    result

@@ -27,9 +27,11 @@ module _ (n : ℕ) (own other : List ℕ) (same : length own ≡ length other) (
       ap (λ (k : ℕ). drop k (take n own ++ drop n other)) (sym (length-take-le n own room))
       ∙ drop-append_seam (take n own) (drop n other)
 
-module _ (frames : ℕ) (p p' : Pool) (host host' fs fs' : List ℕ) (keeps : Keeps p p' host host' fs fs') (behind : frames ≤ base_of p) (stands : Stands p' host') where
+module _ (frames : ℕ) (p p' : Pool) (host host' fs fs' : List ℕ) (keeps : Keeps p p' host host' fs fs') (behind : frames ≤ base_of p)
+    (stands : Stands p' host') where
   -- a kernel that holds none of the frames that move
-  module _ (s : Seat) (h : IsSeated frames p s) (len : length s.memory ≡ length host) (goes : drop (4096 * frames) s.memory ≡ drop (4096 * frames) host)
+  module _ (s : Seat) (h : IsSeated frames p s) (len : length s.memory ≡ length host)
+      (goes : drop (4096 * frames) s.memory ≡ drop (4096 * frames) host)
       (apart : (f : ℕ) → 1 ≤ times f (held_by s) → times f fs ≡ 0) (small : length (free_list p' host') + length (held_by s) < 2 ^ 32)
     where
       other_memory : List ℕ
@@ -127,9 +129,11 @@ module _ (frames : ℕ) (p p' : Pool) (host host' fs fs' : List ℕ) (keeps : Ke
     pub unfree : (f : ℕ) → 1 ≤ times_held f seats → times f (free_list p host) ≡ 0
     pub stay : EachStays frames seats news
 
-  pub others_stay : (seats : List Seat) → AreSeated frames p host seats → ((f : ℕ) → times_held f seats + times f fs ≤ 1) → length (free_list p' host') + all_held seats < 2 ^ 32
+  pub others_stay : (seats : List Seat) → AreSeated frames p host seats → ((f : ℕ) → times_held f seats + times f fs ≤ 1)
+      → length (free_list p' host') + all_held seats < 2 ^ 32
       → Others seats (map (behind_as frames host') seats)
-  others_stay [] h apart small = record { seated = tt; times_same = λ f. refl; all_same = refl; unfree = λ f k. absurd (omega (arith, k)); stay = tt }
+  others_stay [] h apart small =
+      record { seated = tt; times_same = λ f. refl; all_same = refl; unfree = λ f k. absurd (omega (arith, k)); stay = tt }
   others_stay (s ∷ seats) h apart small =
       let rest = others_stay seats h.3 (λ f. (let a = apart f in omega (arith, a))) (omega (arith, small)) in
       let mine : (f : ℕ) → 1 ≤ times f (held_by s) → times f fs ≡ 0 = λ f k. (let a = apart f in omega (arith, a, k)) in
@@ -158,11 +162,13 @@ seated_left : (frames : ℕ) (p : Pool) (host : List ℕ) (xs ys : List Seat) �
 seated_left frames p host [] ys h = tt
 seated_left frames p host (x ∷ xs) ys h = (h.0, h.1, h.2, seated_left frames p host xs ys h.3)
 
-pub seated_right : (frames : ℕ) (p : Pool) (host : List ℕ) (xs ys : List Seat) → AreSeated frames p host (xs ++ ys) → AreSeated frames p host ys
+pub seated_right : (frames : ℕ) (p : Pool) (host : List ℕ) (xs ys : List Seat) → AreSeated frames p host (xs ++ ys)
+    → AreSeated frames p host ys
 seated_right frames p host [] ys h = h
 seated_right frames p host (x ∷ xs) ys h = seated_right frames p host xs ys h.3
 
-pub seated_append : (frames : ℕ) (p : Pool) (host : List ℕ) (xs ys : List Seat) → AreSeated frames p host xs → AreSeated frames p host ys → AreSeated frames p host (xs ++ ys)
+pub seated_append : (frames : ℕ) (p : Pool) (host : List ℕ) (xs ys : List Seat) → AreSeated frames p host xs → AreSeated frames p host ys
+    → AreSeated frames p host (xs ++ ys)
 seated_append frames p host [] ys a b = b
 seated_append frames p host (x ∷ xs) ys a b = (a.0, a.1, a.2, seated_append frames p host xs ys a.3 b)
 
@@ -173,19 +179,23 @@ once_then others here new free apart once moved unfree = elim (zero-or others) [
 ]
 
 -- one kernel has become another, over frames that moved between it and the free ones
-pub one_moves : (frames : ℕ) (p p' : Pool) (host host' : List ℕ) (before after : List Seat) (s s' : Seat) → AreApart frames p host (before ++ s ∷ after)
-    → Keeps p p' host host' (held_by s) (held_by s') → Stands p' host' → IsSeated frames p' s' → length s'.memory ≡ length host' → drop (4096 * frames) s'.memory ≡ drop (4096 * frames) host'
+pub one_moves : (frames : ℕ) (p p' : Pool) (host host' : List ℕ) (before after : List Seat) (s s' : Seat)
+    → AreApart frames p host (before ++ s ∷ after)
+    → Keeps p p' host host' (held_by s) (held_by s') → Stands p' host' → IsSeated frames p' s' → length s'.memory ≡ length host'
+    → drop (4096 * frames) s'.memory ≡ drop (4096 * frames) host'
     → AreApart frames p' host' (map (behind_as frames host') before ++ s' ∷ map (behind_as frames host') after)
 one_moves frames p p' host host' before after s s' h keeps stands seated len goes =
     let left = map (behind_as frames host') before in
     let right = map (behind_as frames host') after in
     let sums = all_append before (s ∷ after) in
-    let counts : (f : ℕ) → times_held f (before ++ s ∷ after) ≡ times_held f before + (times f (held_by s) + times_held f after) = λ f. held_append f before (s ∷ after) in
+    let counts : (f : ℕ) → times_held f (before ++ s ∷ after) ≡ times_held f before + (times f (held_by s) + times_held f after) =
+    λ f. held_append f before (s ∷ after) in
     let all = h.all in
     let few = h.few in
     let lengths = keeps.lengths in
     let tail = seated_right frames p host before (s ∷ after) h.seated in
-    let befores = others_stay frames p p' host host' (held_by s) (held_by s') keeps h.behind stands before (seated_left frames p host before (s ∷ after) h.seated)
+    let befores = others_stay frames p p' host host' (held_by s) (held_by s') keeps h.behind stands before
+    (seated_left frames p host before (s ∷ after) h.seated)
     (λ f. (let a = h.once f in let b = counts f in omega (arith, a, b))) (omega (arith, all, few, lengths, sums)) in
     let afters = others_stay frames p p' host host' (held_by s) (held_by s') keeps h.behind stands after tail.3
     (λ f. (let a = h.once f in let b = counts f in omega (arith, a, b))) (omega (arith, all, few, lengths, sums)) in
@@ -199,31 +209,37 @@ one_moves frames p p' host host' before after s s' h keeps stands seated len goe
           let c = held_append f left (s' ∷ right) in
           let x = befores.times_same f in let y = afters.times_same f in
           let together = keeps.together f in
-          let step = once_then (times_held f before + times_held f after) (times f (held_by s)) (times f (held_by s')) (times f (free_list p host)) (omega (arith, a, b)) (seated.holds.owns.once f) (omega (arith, together))
+          let step = once_then (times_held f before + times_held f after) (times f (held_by s)) (times f (held_by s'))
+          (times f (free_list p host)) (omega (arith, a, b)) (seated.holds.owns.once f) (omega (arith, together))
           (λ k. elim (zero-or (times_held f before)) [
             | inl none ↦ afters.unfree f (omega (arith, k, none))
             | inr some ↦ befores.unfree f some
           ]) in
           omega (arith, c, x, y, step));
-      all = (let d = all_append left (s' ∷ right) in let x = befores.all_same in let y = afters.all_same in omega (arith, d, x, y, all, lengths, sums, number));
+      all = (let d = all_append left (s' ∷ right) in let x = befores.all_same in let y = afters.all_same in
+          omega (arith, d, x, y, all, lengths, sums, number));
       few = omega (arith, few, number);
       behind = omega (arith, below, base);
     }
 
 -- the others are as they were
 abbrev pub OthersStay : ℕ → List ℕ → List Seat → List Seat → Type 0
-OthersStay frames host' before after = EachStays frames before (map (behind_as frames host') before) × EachStays frames after (map (behind_as frames host') after)
+OthersStay frames host' before after =
+    EachStays frames before (map (behind_as frames host') before) × EachStays frames after (map (behind_as frames host') after)
 
-pub others_same : (frames : ℕ) (p p' : Pool) (host host' : List ℕ) (before after : List Seat) (s s' : Seat) → AreApart frames p host (before ++ s ∷ after)
+pub others_same : (frames : ℕ) (p p' : Pool) (host host' : List ℕ) (before after : List Seat) (s s' : Seat)
+    → AreApart frames p host (before ++ s ∷ after)
     → Keeps p p' host host' (held_by s) (held_by s') → Stands p' host' → OthersStay frames host' before after
 others_same frames p p' host host' before after s s' h keeps stands =
     let sums = all_append before (s ∷ after) in
-    let counts : (f : ℕ) → times_held f (before ++ s ∷ after) ≡ times_held f before + (times f (held_by s) + times_held f after) = λ f. held_append f before (s ∷ after) in
+    let counts : (f : ℕ) → times_held f (before ++ s ∷ after) ≡ times_held f before + (times f (held_by s) + times_held f after) =
+    λ f. held_append f before (s ∷ after) in
     let all = h.all in
     let few = h.few in
     let lengths = keeps.lengths in
     let tail = seated_right frames p host before (s ∷ after) h.seated in (
-      (others_stay frames p p' host host' (held_by s) (held_by s') keeps h.behind stands before (seated_left frames p host before (s ∷ after) h.seated)
+      (others_stay frames p p' host host' (held_by s) (held_by s') keeps h.behind stands before
+          (seated_left frames p host before (s ∷ after) h.seated)
           (λ f. (let a = h.once f in let b = counts f in omega (arith, a, b))) (omega (arith, all, few, lengths, sums))).stay,
       (others_stay frames p p' host host' (held_by s) (held_by s') keeps h.behind stands after tail.3
           (λ f. (let a = h.once f in let b = counts f in omega (arith, a, b))) (omega (arith, all, few, lengths, sums))).stay,

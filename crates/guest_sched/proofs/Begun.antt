@@ -22,7 +22,8 @@ use Rattle.guest_sched.specs.Admitting.{HasBegun, first_seat}
 use Rattle.guest_sched.specs.declared.kernel.Kernel.{Kernel}
 use Rattle.guest_sched.proofs.Fronts.{front_put, front_front, behind_front}
 
-module _ (kernel : Kernel) (frames : ℕ) (ram host between : List ℕ) (fits : need kernel.image ≤ frames) (front : take (frames * 4096) ram ≡ boot_ram kernel.image frames) (len : frames * 4096 ≤ length ram)
+module _ (kernel : Kernel) (frames : ℕ) (ram host between : List ℕ) (fits : need kernel.image ≤ frames)
+    (front : take (frames * 4096) ram ≡ boot_ram kernel.image frames) (len : frames * 4096 ≤ length ram)
     (is : between ≡ with_part host 0 (part ram 0 (4096 * frames)))
   where
     room : 4096 * frames ≤ length ram
@@ -37,7 +38,8 @@ module _ (kernel : Kernel) (frames : ℕ) (ram host between : List ℕ) (fits : 
     pub front_there : take (4096 * frames) between ≡ boot_ram kernel.image frames
     front_there =
         let e : 4096 * frames ≡ frames * 4096 = omega arith in
-        ap (take (4096 * frames)) comes ∙ front_front (4096 * frames) ram (drop (4096 * frames) host) room ∙ ap (λ (k : ℕ). take k ram) e ∙ front
+        ap (take (4096 * frames)) comes ∙ front_front (4096 * frames) ram (drop (4096 * frames) host) room
+        ∙ ap (λ (k : ℕ). take k ram) e ∙ front
 
     pub text_there : part between 0x100000 (length kernel.image.text) ≡ kernel.image.text
     text_there = text_stands kernel.image frames between fits front_there
@@ -45,7 +47,8 @@ module _ (kernel : Kernel) (frames : ℕ) (ram host between : List ℕ) (fits : 
     module _ (p p' : Pool) (host' : List ℕ) (guest : Guest) (cpu : Cpu) (board : Board) (size : length between ≡ length host)
         (cpu_is : cpu ≡ boot_cpu kernel.image frames) (board_is : board ≡ at_reset) (able : IsAble (boot_cpu kernel.image frames))
         (held : IsHeld of_roots (ground kernel.image frames) guest p' host')
-        (state : (script : Events) → state_of of_roots (wedge kernel.image script frames) guest host' ≡ record { cpu = cpu; ram = take (4096 * frames) between; set = empty; board = board; step = 0 })
+        (state : (script : Events) → state_of of_roots (wedge kernel.image script frames) guest host'
+        ≡ record { cpu = cpu; ram = take (4096 * frames) between; set = empty; board = board; step = 0 })
         (two : guest.held ≡ 2) (fills : guest.fills ≡ 0)
         (ready : IsReady of_roots (ground kernel.image frames) guest.cpu guest.shadows host')
         (filled : WereFilled (pages_kept of_roots guest.shadows host') guest.fills)
@@ -56,7 +59,13 @@ module _ (kernel : Kernel) (frames : ℕ) (ram host between : List ℕ) (fits : 
 
         seated : IsSeated frames p' (first_seat kernel guest host')
         seated = record {
-          holds = record { frames_are = held.frames_are; room = (let a = keeps.size in omega (arith, a, size, low)); stand = held.stand; owns = held.owns; counted = held.counted };
+          holds = record {
+            frames_are = held.frames_are;
+            room = (let a = keeps.size in omega (arith, a, size, low));
+            stand = held.stand;
+            owns = held.owns;
+            counted = held.counted;
+          };
           goes_on = λ live. record { held = held; ready = ready; able = able_still; filled = filled };
         }
 
@@ -64,7 +73,8 @@ module _ (kernel : Kernel) (frames : ℕ) (ram host between : List ℕ) (fits : 
         begun = record {
           seated = seated;
           start = record {
-            state = state kernel.script.list ∙ begun_is cpu (boot_cpu kernel.image frames) (take (4096 * frames) between) (boot_ram kernel.image frames) board at_reset cpu_is front_there board_is;
+            state = state kernel.script.list ∙ begun_is cpu (boot_cpu kernel.image frames) (take (4096 * frames) between)
+                (boot_ram kernel.image frames) board at_reset cpu_is front_there board_is;
             fills = fills;
             live = refl;
           };

@@ -27,25 +27,33 @@ use Rattle.guest_sched.proofs.Turned.{seat_here}
 use Rattle.guest_sched.proofs.Wide.{IsBetween}
 
 -- what is known of the kernel at this place
-pub at_place : (i n frames : ℕ) (whole done : List Slice) (pieces : List Piece) (ks : List Kernel) (ss : List Seat) (stops : List (Option Stop)) (dk : Kernel) (ds : Seat) (dt : Option Stop) → n < length stops
-    → EachStands i frames whole done pieces ks ss stops → StandsSo (i + n) frames whole done pieces (get_or ks n dk) (get_or ss n ds) (get_or stops n dt)
+pub at_place : (i n frames : ℕ) (whole done : List Slice) (pieces : List Piece) (ks : List Kernel) (ss : List Seat)
+    (stops : List (Option Stop)) (dk : Kernel) (ds : Seat) (dt : Option Stop) → n < length stops
+    → EachStands i frames whole done pieces ks ss stops → StandsSo (i + n) frames whole done pieces (get_or ks n dk)
+    (get_or ss n ds) (get_or stops n dt)
 at_place i n frames whole done pieces [] [] [] dk ds dt lt h = absurd (omega (arith, lt))
 at_place i n frames whole done pieces [] [] (t ∷ stops) dk ds dt lt h = absurd h
 at_place i n frames whole done pieces [] (s ∷ ss) stops dk ds dt lt h = absurd h
 at_place i n frames whole done pieces (k ∷ ks) [] stops dk ds dt lt h = absurd h
 at_place i n frames whole done pieces (k ∷ ks) (s ∷ ss) [] dk ds dt lt h = absurd h
-at_place i zero frames whole done pieces (k ∷ ks) (s ∷ ss) (t ∷ stops) dk ds dt lt h = subst (λ (x : ℕ). StandsSo x frames whole done pieces k s t) (omega arith) h.0
+at_place i zero frames whole done pieces (k ∷ ks) (s ∷ ss) (t ∷ stops) dk ds dt lt h =
+    subst (λ (x : ℕ). StandsSo x frames whole done pieces k s t) (omega arith) h.0
 at_place i (suc n) frames whole done pieces (k ∷ ks) (s ∷ ss) (t ∷ stops) dk ds dt lt h =
-    subst (λ (x : ℕ). StandsSo x frames whole done pieces (get_or ks n dk) (get_or ss n ds) (get_or stops n dt)) (omega arith) (at_place (suc i) n frames whole done pieces ks ss stops dk ds dt (omega (arith, lt)) h.1)
+    subst (λ (x : ℕ). StandsSo x frames whole done pieces (get_or ks n dk) (get_or ss n ds) (get_or stops n dt)) (omega arith)
+    (at_place (suc i) n frames whole done pieces ks ss stops dk ds dt (omega (arith, lt)) h.1)
 
 -- and that it is seated
-pub seated_at : (frames : ℕ) (p : Pool) (host : List ℕ) (present i n : ℕ) (ks : List Kernel) (ts : List Tenant) (dk : Kernel) (d : Tenant) → n < length ts → n < length ks
-    → AreSeated frames p host (seats_from frames host present i ks ts) → IsSeated frames p (seat_of frames host present (i + n) (get_or ks n dk) (get_or ts n d))
+pub seated_at : (frames : ℕ) (p : Pool) (host : List ℕ) (present i n : ℕ) (ks : List Kernel) (ts : List Tenant) (dk : Kernel) (d : Tenant)
+    → n < length ts → n < length ks
+    → AreSeated frames p host (seats_from frames host present i ks ts)
+    → IsSeated frames p (seat_of frames host present (i + n) (get_or ks n dk) (get_or ts n d))
 seated_at frames p host present i n [] ts dk d lt lk h = absurd (omega (arith, lk))
 seated_at frames p host present i n (k ∷ ks) [] dk d lt lk h = absurd (omega (arith, lt))
-seated_at frames p host present i zero (k ∷ ks) (t ∷ ts) dk d lt lk h = subst (λ (x : ℕ). IsSeated frames p (seat_of frames host present x k t)) (omega arith) h.0
+seated_at frames p host present i zero (k ∷ ks) (t ∷ ts) dk d lt lk h =
+    subst (λ (x : ℕ). IsSeated frames p (seat_of frames host present x k t)) (omega arith) h.0
 seated_at frames p host present i (suc n) (k ∷ ks) (t ∷ ts) dk d lt lk h =
-    subst (λ (x : ℕ). IsSeated frames p (seat_of frames host present x (get_or ks n dk) (get_or ts n d))) (omega arith) (seated_at frames p host present (suc i) n ks ts dk d (omega (arith, lt)) (omega (arith, lk)) h.3)
+    subst (λ (x : ℕ). IsSeated frames p (seat_of frames host present x (get_or ks n dk) (get_or ts n d))) (omega arith)
+    (seated_at frames p host present (suc i) n ks ts dk d (omega (arith, lt)) (omega (arith, lk)) h.3)
 
 at_end : (done rest : List Slice) (slice : Slice) → get_or (done ++ slice ∷ rest) (length done) slice ≡ slice
 at_end [] rest slice = refl
@@ -59,20 +67,25 @@ next_slice count whole done slice next =
 
 -- The kernel whose turn it is, in the host's memory.
 
-seats_get : (frames : ℕ) (host : List ℕ) (present i n : ℕ) (ks : List Kernel) (ts : List Tenant) (dk : Kernel) (d : Tenant) (ds : Seat) → n < length ts → n < length ks
+seats_get : (frames : ℕ) (host : List ℕ) (present i n : ℕ) (ks : List Kernel) (ts : List Tenant) (dk : Kernel) (d : Tenant) (ds : Seat)
+    → n < length ts → n < length ks
     → get_or (seats_from frames host present i ks ts) n ds ≡ seat_of frames host present (i + n) (get_or ks n dk) (get_or ts n d)
 seats_get frames host present i n [] ts dk d ds lt lk = absurd (omega (arith, lk))
 seats_get frames host present i n (k ∷ ks) [] dk d ds lt lk = absurd (omega (arith, lt))
 seats_get frames host present i zero (k ∷ ks) (t ∷ ts) dk d ds lt lk = ap (λ (x : ℕ). seat_of frames host present x k t) (omega arith)
 seats_get frames host present i (suc n) (k ∷ ks) (t ∷ ts) dk d ds lt lk =
-    seats_get frames host present (suc i) n ks ts dk d ds (omega (arith, lt)) (omega (arith, lk)) ∙ ap (λ (x : ℕ). seat_of frames host present x (get_or ks n dk) (get_or ts n d)) (omega arith)
+    seats_get frames host present (suc i) n ks ts dk d ds (omega (arith, lt)) (omega (arith, lk))
+    ∙ ap (λ (x : ℕ). seat_of frames host present x (get_or ks n dk) (get_or ts n d)) (omega arith)
 
-pub record Here (frames : ℕ) (whole done : List Slice) (pieces : List Piece) (pool : Pool) (host : List ℕ) (n : ℕ) (k : Kernel) (t : Tenant) : Type 0 where
+pub record Here (frames : ℕ) (whole done : List Slice) (pieces : List Piece) (pool : Pool) (host : List ℕ) (n : ℕ) (k : Kernel)
+    (t : Tenant) : Type 0 where
   pub seated : IsSeated frames pool (seat_here k host t)
   pub stands : StandsSo n frames whole done pieces k (seat_here k host t) t.stop
 
-pub here_of : (frames : ℕ) (whole done : List Slice) (pieces : List Piece) (ks : List Kernel) (ts : List Tenant) (pool : Pool) (present : ℕ) (host : List ℕ) (dk : Kernel) (d : Tenant) → present < length ts → length ts ≡ length ks
-    → AreSeated frames pool host (seats_from frames host present 0 ks ts) → EachStands 0 frames whole done pieces ks (seats_from frames host present 0 ks ts) (stops_of ts)
+pub here_of : (frames : ℕ) (whole done : List Slice) (pieces : List Piece) (ks : List Kernel) (ts : List Tenant) (pool : Pool) (present : ℕ)
+    (host : List ℕ) (dk : Kernel) (d : Tenant) → present < length ts → length ts ≡ length ks
+    → AreSeated frames pool host (seats_from frames host present 0 ks ts)
+    → EachStands 0 frames whole done pieces ks (seats_from frames host present 0 ks ts) (stops_of ts)
     → Here frames whole done pieces pool host present (get_or ks present dk) (get_or ts present d)
 here_of frames whole done pieces ks ts pool present host dk d lt len seated each =
     let k = get_or ks present dk in
@@ -86,19 +99,25 @@ here_of frames whole done pieces ks ts pool present host dk d lt len seated each
     record {
       seated = subst (λ (s : Seat). IsSeated frames pool s) at (seated_at frames pool host present 0 present ks ts dk d lt lk seated);
       stands =
-          subst (λ (o : Option Stop). StandsSo present frames whole done pieces k (seat_here k host t) o) (get_or-map (λ (t : Tenant). t.stop) ts present d None lt)
+          subst (λ (o : Option Stop). StandsSo present frames whole done pieces k (seat_here k host t) o)
+          (get_or-map (λ (t : Tenant). t.stop) ts present d None lt)
           (subst (λ (s : Seat). StandsSo present frames whole done pieces k s (get_or (stops_of ts) present None)) (got ∙ at)
-          (subst (λ (x : ℕ). StandsSo x frames whole done pieces k (get_or (seats_from frames host present 0 ks ts) present ds) (get_or (stops_of ts) present None)) zero_is
+          (subst (λ (x : ℕ). StandsSo x frames whole done pieces k (get_or (seats_from frames host present 0 ks ts) present ds)
+          (get_or (stops_of ts) present None)) zero_is
           (at_place 0 present frames whole done pieces ks (seats_from frames host present 0 ks ts) (stops_of ts) dk ds None ls each)));
     }
 
 -- another kernel came into the host's memory
-pub brought_between : (kernels : List Kernel) (frames : ℕ) (whole done : List Slice) (pieces : List Piece) (ts ts' : List Tenant) (pool : Pool) (present present' : ℕ) (host host' : List ℕ) (before now : Counts) (old new : Option (List ℕ))
-    → HasBrought frames host host' present present' ts ts' → present' < length ts → IsBetween kernels frames whole done pieces ts pool present host before now old new → IsBetween kernels frames whole done pieces ts' pool present' host' before now old new
-brought_between [] frames whole done pieces ts ts' pool present present' host host' before now old new h lt b = absurd (let n = b.rooms.len in omega (arith, lt, n))
+pub brought_between : (kernels : List Kernel) (frames : ℕ) (whole done : List Slice) (pieces : List Piece) (ts ts' : List Tenant)
+    (pool : Pool) (present present' : ℕ) (host host' : List ℕ) (before now : Counts) (old new : Option (List ℕ))
+    → HasBrought frames host host' present present' ts ts' → present' < length ts → IsBetween kernels frames whole done pieces ts pool
+    present host before now old new → IsBetween kernels frames whole done pieces ts' pool present' host' before now old new
+brought_between [] frames whole done pieces ts ts' pool present present' host host' before now old new h lt b =
+    absurd (let n = b.rooms.len in omega (arith, lt, n))
 brought_between (k ∷ ks) frames whole done pieces ts ts' pool present present' host host' before now old new h lt b =
     let stops = ap length h.stops in
-    let same : length ts' ≡ length ts = (let x = length-map ts' (λ (t : Tenant). t.stop) in let y = length-map ts (λ (t : Tenant). t.stop) in omega (arith, stops, x, y)) in
+    let same : length ts' ≡ length ts =
+    (let x = length-map ts' (λ (t : Tenant). t.stop) in let y = length-map ts (λ (t : Tenant). t.stop) in omega (arith, stops, x, y)) in
     record {
       rooms = record {
         len = same ∙ b.rooms.len;
@@ -111,7 +130,9 @@ brought_between (k ∷ ks) frames whole done pieces ts ts' pool present present'
       };
       apart = h.apart pool k ks b.apart;
       turns = b.turns;
-      each = subst (λ (l : List (Option Stop)). EachStands 0 frames whole done pieces (k ∷ ks) (seats_from frames host' present' 0 (k ∷ ks) ts') l) (sym h.stops)
+      each =
+          subst (λ (l : List (Option Stop)). EachStands 0 frames whole done pieces (k ∷ ks)
+          (seats_from frames host' present' 0 (k ∷ ks) ts') l) (sym h.stops)
           (subst (λ (l : List Seat). EachStands 0 frames whole done pieces (k ∷ ks) l (stops_of ts)) (sym (h.seats (k ∷ ks))) b.each);
       text = b.text;
       counts = b.counts;
@@ -119,29 +140,39 @@ brought_between (k ∷ ks) frames whole done pieces ts ts' pool present present'
     }
 
 -- kernels gave up frames
-pub roomed_between : (kernels : List Kernel) (frames : ℕ) (whole done : List Slice) (pieces : List Piece) (ts ts' : List Tenant) (pool pool' : Pool) (present : ℕ) (host host' : List ℕ) (before now : Counts) (old new : Option (List ℕ))
-    → HasMadeRoom present ts ts' → All (λ (t : Tenant). 4096 * frames ≤ length t.ram) ts' → count_of pool' ≡ 512 → length host' ≡ length host
-    → (AreApart frames pool host (seats_from frames host present 0 kernels ts) → AreApart frames pool' host' (seats_from frames host' present 0 kernels ts'))
-    → (AreApart frames pool host (seats_from frames host present 0 kernels ts) → EachStays frames (seats_from frames host present 0 kernels ts) (seats_from frames host' present 0 kernels ts'))
-    → IsBetween kernels frames whole done pieces ts pool present host before now old new → IsBetween kernels frames whole done pieces ts' pool' present host' before now old new
-roomed_between kernels frames whole done pieces ts ts' pool pool' present host host' before now old new h theirs count size apart stay b = record {
-  rooms = record {
-    len = h.len ∙ b.rooms.len;
-    four = b.rooms.four;
-    there = (let n = h.len in let there = b.rooms.there in omega (arith, n, there));
-    size = b.rooms.size;
-    room = (let r = b.rooms.room in omega (arith, r, size));
-    theirs = theirs;
-    pool_is = count;
-  };
-  apart = apart b.apart;
-  turns = b.turns;
-  each = subst (λ (l : List (Option Stop)). EachStands 0 frames whole done pieces kernels (seats_from frames host' present 0 kernels ts') l) (sym h.stops)
-      (all_stay 0 frames whole done pieces kernels (seats_from frames host present 0 kernels ts) (seats_from frames host' present 0 kernels ts') (stops_of ts) (stay b.apart) b.each);
-  text = b.text;
-  counts = b.counts;
-  retired = b.retired;
-}
+pub roomed_between : (kernels : List Kernel) (frames : ℕ) (whole done : List Slice) (pieces : List Piece) (ts ts' : List Tenant)
+    (pool pool' : Pool) (present : ℕ) (host host' : List ℕ) (before now : Counts) (old new : Option (List ℕ))
+    → HasMadeRoom present ts ts' → All (λ (t : Tenant). 4096 * frames ≤ length t.ram) ts' → count_of pool' ≡ 512
+    → length host' ≡ length host
+    → (AreApart frames pool host (seats_from frames host present 0 kernels ts) → AreApart frames pool' host'
+    (seats_from frames host' present 0 kernels ts'))
+    → (AreApart frames pool host (seats_from frames host present 0 kernels ts) → EachStays frames
+    (seats_from frames host present 0 kernels ts) (seats_from frames host' present 0 kernels ts'))
+    → IsBetween kernels frames whole done pieces ts pool present host before now old new
+    → IsBetween kernels frames whole done pieces ts' pool' present host' before now old new
+roomed_between kernels frames whole done pieces ts ts' pool pool' present host host' before now old new h theirs count size apart stay b =
+    record {
+      rooms = record {
+        len = h.len ∙ b.rooms.len;
+        four = b.rooms.four;
+        there = (let n = h.len in let there = b.rooms.there in omega (arith, n, there));
+        size = b.rooms.size;
+        room = (let r = b.rooms.room in omega (arith, r, size));
+        theirs = theirs;
+        pool_is = count;
+      };
+      apart = apart b.apart;
+      turns = b.turns;
+      each =
+          subst (λ (l : List (Option Stop)). EachStands 0 frames whole done pieces kernels
+          (seats_from frames host' present 0 kernels ts') l)
+          (sym h.stops)
+          (all_stay 0 frames whole done pieces kernels (seats_from frames host present 0 kernels ts)
+          (seats_from frames host' present 0 kernels ts') (stops_of ts) (stay b.apart) b.each);
+      text = b.text;
+      counts = b.counts;
+      retired = b.retired;
+    }
 
 -- Counts of a turn.
 
@@ -158,7 +189,8 @@ direct_one sites r = one_at_most sites r.completed
 
 pub direct_few : (sites : List Site) (reports : List Report) → direct_count sites reports ≤ length reports
 direct_few sites [] = omega arith
-direct_few sites (r ∷ reports) = let rest = direct_few sites reports in let one = direct_one sites r in omega (arith, rest, one, length-append (direct_in sites r.completed) (direct_addresses sites reports))
+direct_few sites (r ∷ reports) = let rest = direct_few sites reports in let one = direct_one sites r in
+    omega (arith, rest, one, length-append (direct_in sites r.completed) (direct_addresses sites reports))
 
 pub sites_at : (kernels : List Kernel) (n : ℕ) (dk : Kernel) → n < length kernels → sites_in kernels n ≡ (get_or kernels n dk).image.sites
 sites_at [] n dk lt = absurd (omega (arith, lt))
@@ -166,10 +198,13 @@ sites_at (k ∷ ks) zero dk lt = refl
 sites_at (k ∷ ks) (suc n) dk lt = sites_at ks n dk (omega (arith, lt))
 
 -- the sum of a kernel's slices
-pub sums_of : (count : ℕ) (whole done : List Slice) (slice : Slice) → IsNext count whole done slice → (bound_of slice.kernel (done ++ slice ∷ []) ≡ bound_of slice.kernel done + slice.steps) × (bound_of slice.kernel done + slice.steps ≤ bound_of slice.kernel whole)
+pub sums_of : (count : ℕ) (whole done : List Slice) (slice : Slice) → IsNext count whole done slice
+    → (bound_of slice.kernel (done ++ slice ∷ []) ≡ bound_of slice.kernel done + slice.steps)
+    × (bound_of slice.kernel done + slice.steps ≤ bound_of slice.kernel whole)
 sums_of count whole done slice next =
     let n = slice.kernel in
-    let one : bound_of n (slice ∷ []) ≡ slice.steps = elim (eqb_tells n n) [ inl e ↦ (let own = for_mine n slice e.0 in omega (arith, own)) | inr o ↦ absurd (o.1 refl) ] in
+    let one : bound_of n (slice ∷ []) ≡ slice.steps =
+    elim (eqb_tells n n) [ inl e ↦ (let own = for_mine n slice e.0 in omega (arith, own)) | inr o ↦ absurd (o.1 refl) ] in
     let up = bound_append n done (slice ∷ []) in
     let all = ap (bound_of n) next.whole_is ∙ bound_append n done (slice ∷ next.rest) in
     let later = bound_append n (slice ∷ []) next.rest in

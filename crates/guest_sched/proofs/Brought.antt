@@ -30,7 +30,8 @@ mem_of frames host present j t = cond (j == present) host (memory_with frames ho
 pub seat_with : Kernel → Running Roots → List ℕ → Bool → Seat
 seat_with k running m live = record { image = k.image; running = running; memory = m; live = live }
 
-pub same_seat : (frames : ℕ) (host host' : List ℕ) (present present' j : ℕ) (k : Kernel) (t t' : Tenant) → t'.guest ≡ t.guest → t'.stop ≡ t.stop → mem_of frames host' present' j t' ≡ mem_of frames host present j t
+pub same_seat : (frames : ℕ) (host host' : List ℕ) (present present' j : ℕ) (k : Kernel) (t t' : Tenant) → t'.guest ≡ t.guest
+    → t'.stop ≡ t.stop → mem_of frames host' present' j t' ≡ mem_of frames host present j t
     → seat_of frames host' present' j k t' ≡ seat_of frames host present j k t
 unfolding mem_of seat_with
 same_seat frames host host' present present' j k t t' guest stop memory =
@@ -38,8 +39,10 @@ same_seat frames host host' present present' j k t t' guest stop memory =
     ∙ ap (λ (m : List ℕ). seat_with k t.guest m (is_none t'.stop)) memory
     ∙ ap (λ (s : Option Stop). seat_with k t.guest (mem_of frames host present j t) (is_none s)) stop
 
-pub same_seats : (frames : ℕ) (host host' : List ℕ) (present present' i : ℕ) (kernels : List Kernel) (ts ts' : List Tenant) (d : Tenant) → length ts' ≡ length ts
-    → ((j m : ℕ) (k : Kernel) → j < length ts → m ≡ i + j → seat_of frames host' present' m k (get_or ts' j d) ≡ seat_of frames host present m k (get_or ts j d))
+pub same_seats : (frames : ℕ) (host host' : List ℕ) (present present' i : ℕ) (kernels : List Kernel) (ts ts' : List Tenant) (d : Tenant)
+    → length ts' ≡ length ts
+    → ((j m : ℕ) (k : Kernel) → j < length ts → m ≡ i + j → seat_of frames host' present' m k (get_or ts' j d) ≡ seat_of frames host present
+    m k (get_or ts j d))
     → seats_from frames host' present' i kernels ts' ≡ seats_from frames host present i kernels ts
 same_seats frames host host' present present' i [] ts ts' d len each = refl
 same_seats frames host host' present present' i (k ∷ ks) [] [] d len each = refl
@@ -48,14 +51,18 @@ same_seats frames host host' present present' i (k ∷ ks) (t ∷ ts) [] d len e
 same_seats frames host host' present present' i (k ∷ ks) (t ∷ ts) (t' ∷ ts') d len each =
     ap (λ s. s ∷ seats_from frames host' present' (suc i) ks ts') (each 0 i k (omega arith) (omega arith))
     ∙ ap (λ l. seat_of frames host present i k t ∷ l)
-    (same_seats frames host host' present present' (suc i) ks ts ts' d (omega (arith, len)) (λ j m k l e. each (suc j) m k (omega (arith, l)) (omega (arith, e))))
+    (same_seats frames host host' present present' (suc i) ks ts ts' d (omega (arith, len))
+    (λ j m k l e. each (suc j) m k (omega (arith, l)) (omega (arith, e))))
 
 -- they are apart over the host's memory as it is then
-pub seated_over : (frames : ℕ) (p : Pool) (host host' : List ℕ) (seats : List Seat) → length host' ≡ length host → drop (4096 * frames) host' ≡ drop (4096 * frames) host → AreSeated frames p host seats → AreSeated frames p host' seats
+pub seated_over : (frames : ℕ) (p : Pool) (host host' : List ℕ) (seats : List Seat) → length host' ≡ length host
+    → drop (4096 * frames) host' ≡ drop (4096 * frames) host → AreSeated frames p host seats → AreSeated frames p host' seats
 seated_over frames p host host' [] size behind h = tt
-seated_over frames p host host' (s ∷ seats) size behind h = (h.0, h.1 ∙ sym size, h.2 ∙ sym behind, seated_over frames p host host' seats size behind h.3)
+seated_over frames p host host' (s ∷ seats) size behind h =
+    (h.0, h.1 ∙ sym size, h.2 ∙ sym behind, seated_over frames p host host' seats size behind h.3)
 
-pub apart_over : (frames : ℕ) (p : Pool) (host host' : List ℕ) (s : Seat) (seats : List Seat) → length host' ≡ length host → drop (4096 * frames) host' ≡ drop (4096 * frames) host → AreApart frames p host (s ∷ seats) → AreApart frames p host' (s ∷ seats)
+pub apart_over : (frames : ℕ) (p : Pool) (host host' : List ℕ) (s : Seat) (seats : List Seat) → length host' ≡ length host
+    → drop (4096 * frames) host' ≡ drop (4096 * frames) host → AreApart frames p host (s ∷ seats) → AreApart frames p host' (s ∷ seats)
 apart_over frames p host host' s seats size behind h =
     let low : 4096 * frames ≤ 4096 * base_of p = (let b = h.behind in omega (arith, b)) in
     let stands = h.seated.0.holds.owns.stands in
@@ -70,17 +77,24 @@ apart_over frames p host host' s seats size behind h =
     }
 
 apart_first : (frames : ℕ) (pool : Pool) (host host' : List ℕ) (present present' : ℕ) (ts ts' : List Tenant) (k : Kernel) (ks : List Kernel)
-    → seats_from frames host' present' 0 (k ∷ ks) ts' ≡ seats_from frames host present 0 (k ∷ ks) ts → length host' ≡ length host → drop (4096 * frames) host' ≡ drop (4096 * frames) host → present < length ts
-    → AreApart frames pool host (seats_from frames host present 0 (k ∷ ks) ts) → AreApart frames pool host' (seats_from frames host' present' 0 (k ∷ ks) ts')
+    → seats_from frames host' present' 0 (k ∷ ks) ts' ≡ seats_from frames host present 0 (k ∷ ks) ts → length host' ≡ length host
+    → drop (4096 * frames) host' ≡ drop (4096 * frames) host → present < length ts
+    → AreApart frames pool host (seats_from frames host present 0 (k ∷ ks) ts)
+    → AreApart frames pool host' (seats_from frames host' present' 0 (k ∷ ks) ts')
 apart_first frames pool host host' present present' [] ts' k ks same size behind there h = absurd (omega (arith, there))
 apart_first frames pool host host' present present' (t ∷ ts) ts' k ks same size behind there h =
-    subst (λ (l : List Seat). AreApart frames pool host' l) (sym same) (apart_over frames pool host host' (seat_of frames host present 0 k t) (seats_from frames host present 1 ks ts) size behind h)
+    subst (λ (l : List Seat). AreApart frames pool host' l) (sym same)
+    (apart_over frames pool host host' (seat_of frames host present 0 k t) (seats_from frames host present 1 ks ts) size behind h)
 
-module _ (frames : ℕ) (host mid last : List ℕ) (present kernel : ℕ) (tenants left both : List Tenant) (d a b : Tenant) (differ : kernel ≢ present) (known : kernel < length tenants) (there : present < length tenants)
+module _ (frames : ℕ) (host mid last : List ℕ) (present kernel : ℕ) (tenants left both : List Tenant) (d a b : Tenant)
+    (differ : kernel ≢ present) (known : kernel < length tenants) (there : present < length tenants)
     (theirs : All (λ (t : Tenant). 4096 * frames ≤ length t.ram) tenants) (room : 4096 * frames ≤ length host)
-    (left_is : left ≡ set tenants present a) (a_front : take (4096 * frames) a.ram ≡ take (4096 * frames) host) (a_len : length a.ram ≡ length (get_or tenants present d).ram) (a_guest : a.guest ≡ (get_or tenants present d).guest) (a_stop : a.stop ≡ (get_or tenants present d).stop)
+    (left_is : left ≡ set tenants present a) (a_front : take (4096 * frames) a.ram ≡ take (4096 * frames) host)
+    (a_len : length a.ram ≡ length (get_or tenants present d).ram) (a_guest : a.guest ≡ (get_or tenants present d).guest)
+    (a_stop : a.stop ≡ (get_or tenants present d).stop)
     (mid_is : mid ≡ with_part host 0 (part (get_or tenants present d).ram 0 (4096 * frames)))
-    (both_is : both ≡ set left kernel b) (b_len : length b.ram ≡ length (get_or left kernel d).ram) (b_guest : b.guest ≡ (get_or left kernel d).guest) (b_stop : b.stop ≡ (get_or left kernel d).stop)
+    (both_is : both ≡ set left kernel b) (b_len : length b.ram ≡ length (get_or left kernel d).ram)
+    (b_guest : b.guest ≡ (get_or left kernel d).guest) (b_stop : b.stop ≡ (get_or left kernel d).stop)
     (last_is : last ≡ with_part mid 0 (part (get_or left kernel d).ram 0 (4096 * frames)))
   where
     x : Tenant
@@ -117,7 +131,13 @@ module _ (frames : ℕ) (host mid last : List ℕ) (present kernel : ℕ) (tenan
     last_leaves = leaves (4096 * frames) host mid last x.ram y.ram a.ram x_room y_room mid_is a_front last_y
 
     last_size : length last ≡ length host
-    last_size = ap length last_comes ∙ omega (arith, length-append (take (4096 * frames) y.ram) (drop (4096 * frames) host), length-take-le (4096 * frames) y.ram y_room, length-drop (4096 * frames) host, room)
+    last_size = ap length last_comes ∙ omega (
+      arith,
+      length-append (take (4096 * frames) y.ram) (drop (4096 * frames) host),
+      length-take-le (4096 * frames) y.ram y_room,
+      length-drop (4096 * frames) host,
+      room,
+    )
 
     a_room : 4096 * frames ≤ length a.ram
     unfolding x
@@ -127,7 +147,13 @@ module _ (frames : ℕ) (host mid last : List ℕ) (present kernel : ℕ) (tenan
     unfolding x
     mid_size =
         ap length (mid_is ∙ front_put (4096 * frames) host x.ram x_room)
-        ∙ omega (arith, length-append (take (4096 * frames) x.ram) (drop (4096 * frames) host), length-take-le (4096 * frames) x.ram x_room, length-drop (4096 * frames) host, room)
+        ∙ omega (
+          arith,
+          length-append (take (4096 * frames) x.ram) (drop (4096 * frames) host),
+          length-take-le (4096 * frames) x.ram x_room,
+          length-drop (4096 * frames) host,
+          room,
+        )
 
     pub mid_room : 4096 * frames ≤ length mid
     mid_room = omega (arith, mid_size, room)
@@ -142,15 +168,18 @@ module _ (frames : ℕ) (host mid last : List ℕ) (present kernel : ℕ) (tenan
     len = ap length both_is ∙ length-set left kernel b ∙ len_left
 
     at_kernel : (j : ℕ) → j ≡ kernel → get_or both j d ≡ b
-    at_kernel j e = ap (λ i. get_or both i d) e ∙ ap (λ l. get_or l kernel d) both_is ∙ get_or-set_same left kernel b d (omega (arith, known, len_left))
+    at_kernel j e =
+        ap (λ i. get_or both i d) e ∙ ap (λ l. get_or l kernel d) both_is ∙ get_or-set_same left kernel b d (omega (arith, known, len_left))
 
     at_present : (j : ℕ) → j ≢ kernel → j ≡ present → get_or both j d ≡ a
     at_present j n e =
-        ap (λ l. get_or l j d) both_is ∙ get_or-set_other left kernel j b d n ∙ ap (λ i. get_or left i d) e ∙ ap (λ l. get_or l present d) left_is
+        ap (λ l. get_or l j d) both_is ∙ get_or-set_other left kernel j b d n ∙ ap (λ i. get_or left i d) e
+        ∙ ap (λ l. get_or l present d) left_is
         ∙ get_or-set_same tenants present a d there
 
     at_other : (j : ℕ) → j ≢ kernel → j ≢ present → get_or both j d ≡ get_or tenants j d
-    at_other j n o = ap (λ l. get_or l j d) both_is ∙ get_or-set_other left kernel j b d n ∙ ap (λ l. get_or l j d) left_is ∙ get_or-set_other tenants present j a d o
+    at_other j n o = ap (λ l. get_or l j d) both_is ∙ get_or-set_other left kernel j b d n ∙ ap (λ l. get_or l j d) left_is
+        ∙ get_or-set_other tenants present j a d o
 
     each : (j : ℕ) (k : Kernel) → seat_of frames last kernel j k (get_or both j d) ≡ seat_of frames host present j k (get_or tenants j d)
     unfolding mem_of x y
@@ -187,18 +216,25 @@ module _ (frames : ℕ) (host mid last : List ℕ) (present kernel : ℕ) (tenan
     ]
 
     seats : (kernels : List Kernel) → seats_from frames last kernel 0 kernels both ≡ seats_from frames host present 0 kernels tenants
-    seats kernels = same_seats frames host last present kernel 0 kernels tenants both d len (λ j m k l e. subst (λ i. seat_of frames last kernel i k (get_or both j d) ≡ seat_of frames host present i k (get_or tenants j d)) (omega (arith, e)) (each j k))
+    seats kernels = same_seats frames host last present kernel 0 kernels tenants both d len
+        (λ j m k l e. subst (λ i. seat_of frames last kernel i k (get_or both j d) ≡ seat_of frames host present i k (get_or tenants j d))
+        (omega (arith, e)) (each j k))
 
     rooms : (j : ℕ) (e : Tenant) → j < length both → 4096 * frames ≤ length (get_or both j e).ram
     rooms j e l = elim (eqb_tells j kernel) [
-      | inl t ↦ (let g = ap (λ (z : Tenant). length z.ram) (ap (λ i. get_or both i e) t.1 ∙ ap (λ l. get_or l kernel e) both_is ∙ get_or-set_same left kernel b e (omega (arith, known, len_left))) in omega (arith, g, b_room))
+      | inl t ↦ (let g = ap (λ (z : Tenant). length z.ram)
+          (ap (λ i. get_or both i e) t.1 ∙ ap (λ l. get_or l kernel e) both_is ∙ get_or-set_same left kernel b e
+          (omega (arith, known, len_left))) in omega (arith, g, b_room))
       | inr n ↦ elim (eqb_tells j present) [
         | inl t ↦
             (let g = ap (λ (z : Tenant). length z.ram)
-            (ap (λ l. get_or l j e) both_is ∙ get_or-set_other left kernel j b e n.1 ∙ ap (λ i. get_or left i e) t.1 ∙ ap (λ l. get_or l present e) left_is ∙ get_or-set_same tenants present a e there) in
+            (ap (λ l. get_or l j e) both_is ∙ get_or-set_other left kernel j b e n.1 ∙ ap (λ i. get_or left i e) t.1
+            ∙ ap (λ l. get_or l present e) left_is ∙ get_or-set_same tenants present a e there) in
             omega (arith, g, a_room))
         | inr o ↦
-            (let g = ap (λ (z : Tenant). length z.ram) (ap (λ l. get_or l j e) both_is ∙ get_or-set_other left kernel j b e n.1 ∙ ap (λ l. get_or l j e) left_is ∙ get_or-set_other tenants present j a e o.1) in
+            (let g = ap (λ (z : Tenant). length z.ram)
+            (ap (λ l. get_or l j e) both_is ∙ get_or-set_other left kernel j b e n.1 ∙ ap (λ l. get_or l j e) left_is ∙ get_or-set_other
+            tenants present j a e o.1) in
             let t = theirs j e (omega (arith, l, len)) in omega (arith, g, t))
       ]
     ]
@@ -216,7 +252,8 @@ module _ (frames : ℕ) (host mid last : List ℕ) (present kernel : ℕ) (tenan
       rooms = rooms;
       size = last_size;
       behind = last_behind;
-      apart = λ pool k ks h. apart_first frames pool host last present kernel tenants both k ks (seats (k ∷ ks)) last_size last_behind there h;
+      apart =
+          λ pool k ks h. apart_first frames pool host last present kernel tenants both k ks (seats (k ∷ ks)) last_size last_behind there h;
     }
 
 -- some kernel of a list that has one
@@ -225,17 +262,21 @@ any_of [] k l = absurd (omega (arith, l))
 any_of (t ∷ ts) k l = t
 
 -- what an exchange leaves of the list
-pub left_rooms : (frames : ℕ) (present : ℕ) (tenants left : List Tenant) (a : Tenant) → present < length tenants → left ≡ set tenants present a → 4096 * frames ≤ length a.ram
+pub left_rooms : (frames : ℕ) (present : ℕ) (tenants left : List Tenant) (a : Tenant) → present < length tenants
+    → left ≡ set tenants present a → 4096 * frames ≤ length a.ram
     → All (λ (t : Tenant). 4096 * frames ≤ length t.ram) tenants → All (λ (t : Tenant). 4096 * frames ≤ length t.ram) left
 left_rooms frames present tenants left a there left_is room theirs j e l = elim (eqb_tells j present) [
-  | inl t ↦ (let g = ap (λ (z : Tenant). length z.ram) (ap (λ i. get_or left i e) t.1 ∙ ap (λ l. get_or l present e) left_is ∙ get_or-set_same tenants present a e there) in omega (arith, g, room))
+  | inl t ↦ (let g = ap (λ (z : Tenant). length z.ram)
+      (ap (λ i. get_or left i e) t.1 ∙ ap (λ l. get_or l present e) left_is ∙ get_or-set_same tenants present a e there) in
+      omega (arith, g, room))
   | inr o ↦
       (let g = ap (λ (z : Tenant). length z.ram) (ap (λ l. get_or l j e) left_is ∙ get_or-set_other tenants present j a e o.1) in
       let n = ap length left_is ∙ length-set tenants present a in
       let t = theirs j e (omega (arith, l, n)) in omega (arith, g, t))
 ]
 
-pub left_size : (frames : ℕ) (host mid : List ℕ) (t : Tenant) → 4096 * frames ≤ length t.ram → 4096 * frames ≤ length host → mid ≡ with_part host 0 (part t.ram 0 (4096 * frames)) → 4096 * frames ≤ length mid
+pub left_size : (frames : ℕ) (host mid : List ℕ) (t : Tenant) → 4096 * frames ≤ length t.ram → 4096 * frames ≤ length host
+    → mid ≡ with_part host 0 (part t.ram 0 (4096 * frames)) → 4096 * frames ≤ length mid
 left_size frames host mid t theirs room mid_is =
     let e = ap length (mid_is ∙ front_put (4096 * frames) host t.ram theirs) in
     omega (arith, e, length-append (take (4096 * frames) t.ram) (drop (4096 * frames) host), length-take-le (4096 * frames) t.ram theirs)

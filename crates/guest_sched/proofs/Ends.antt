@@ -32,11 +32,15 @@ use Rattle.guest_sched.proofs.Wide.{IsBetween}
 
 -- a run alone, with its own set at the end
 abbrev OwnRun : Setting → ℕ → List Report → List ℕ → Ended → List ℕ → Type 0
-OwnRun m n reports text ended host = (ran : RanAlone m n reports text ended) × HasOwnEnd m n ran.last ended.end ran.run.ends ran.fills.end ended.fills host
+OwnRun m n reports text ended host =
+    (ran : RanAlone m n reports text ended) × HasOwnEnd m n ran.last ended.end ran.run.ends ran.fills.end ended.fills host
 
-one_ran : (number frames : ℕ) (pool : Pool) (host : List ℕ) (whole : List Slice) (pieces : List Piece) (kernel : Kernel) (seat : Seat) (stop : Option Stop) → StandsSo number frames whole whole pieces kernel seat stop
-    → seat.image ≡ kernel.image → seat.live ≡ is_none stop → IsSeated frames pool seat → drop (4096 * frames) seat.memory ≡ drop (4096 * frames) host
-    → OwnRun (alone kernel frames) (bound_of number whole) (reports_of number pieces) (own_text number pieces ++ bound_line seat.running.step (end_with stop))
+one_ran : (number frames : ℕ) (pool : Pool) (host : List ℕ) (whole : List Slice) (pieces : List Piece) (kernel : Kernel) (seat : Seat)
+    (stop : Option Stop) → StandsSo number frames whole whole pieces kernel seat stop
+    → seat.image ≡ kernel.image → seat.live ≡ is_none stop → IsSeated frames pool seat
+    → drop (4096 * frames) seat.memory ≡ drop (4096 * frames) host
+    → OwnRun (alone kernel frames) (bound_of number whole) (reports_of number pieces)
+    (own_text number pieces ++ bound_line seat.running.step (end_with stop))
     (record { steps = seat.running.step; end = end_with stop; fills = seat.running.fills }) host
 unfolding text_of
 one_ran number frames pool host whole pieces kernel seat None h image live seated behind =
@@ -64,26 +68,37 @@ one_ran number frames pool host whole pieces kernel seat (Some stop) h image liv
   h.0.own,
 )
 
-all_ran : (number frames : ℕ) (pool : Pool) (host : List ℕ) (present : ℕ) (whole : List Slice) (pieces : List Piece) (kernels : List Kernel) (tenants : List Tenant) → length tenants ≡ length kernels
-    → EachStands number frames whole whole pieces kernels (seats_from frames host present number kernels tenants) (stops_of tenants) → AreSeated frames pool host (seats_from frames host present number kernels tenants)
-    → (each : EachRan number frames whole pieces kernels (map ended_of tenants)) × EachHasOwnEnd number frames whole pieces kernels (map ended_of tenants) each host
+all_ran : (number frames : ℕ) (pool : Pool) (host : List ℕ) (present : ℕ) (whole : List Slice) (pieces : List Piece) (kernels : List Kernel)
+    (tenants : List Tenant) → length tenants ≡ length kernels
+    → EachStands number frames whole whole pieces kernels (seats_from frames host present number kernels tenants) (stops_of tenants)
+    → AreSeated frames pool host (seats_from frames host present number kernels tenants)
+    → (each : EachRan number frames whole pieces kernels (map ended_of tenants)) × EachHasOwnEnd number frames whole pieces kernels
+    (map ended_of tenants) each host
 all_ran number frames pool host present whole pieces [] [] len h seated = (tt, tt)
 all_ran number frames pool host present whole pieces [] (t ∷ ts) len h seated = absurd (omega (arith, len))
 all_ran number frames pool host present whole pieces (k ∷ ks) [] len h seated = absurd (omega (arith, len))
 all_ran number frames pool host present whole pieces (k ∷ ks) (t ∷ ts) len h seated =
-    let one = one_ran number frames pool host whole pieces k (seat_of frames host present number k t) t.stop h.0 refl refl seated.0 seated.2 in
+    let one =
+    one_ran number frames pool host whole pieces k (seat_of frames host present number k t) t.stop h.0 refl refl seated.0 seated.2 in
     let rest = all_ran (suc number) frames pool host present whole pieces ks ts (omega (arith, len)) h.1 seated.3 in
     ((one.0, rest.0), (one.1, rest.1))
 
-module _ (kernels : List Kernel) (frames : ℕ) (whole : List Slice) (pieces : List Piece) (tenants : List Tenant) (pool : Pool) (present : ℕ) (host : List ℕ) (before now : Counts) (old new : Option (List ℕ))
+module _ (kernels : List Kernel) (frames : ℕ) (whole : List Slice) (pieces : List Piece) (tenants : List Tenant) (pool : Pool) (present : ℕ)
+    (host : List ℕ) (before now : Counts) (old new : Option (List ℕ))
     (h : IsBetween kernels frames whole whole pieces tenants pool present host before now old new)
   where
-    each_ran : (each : EachRan 0 frames whole pieces kernels (map ended_of tenants)) × EachHasOwnEnd 0 frames whole pieces kernels (map ended_of tenants) each host
+    each_ran : (each : EachRan 0 frames whole pieces kernels (map ended_of tenants))
+        × EachHasOwnEnd 0 frames whole pieces kernels (map ended_of tenants) each host
     each_ran = all_ran 0 frames pool host present whole pieces kernels tenants h.rooms.len h.each h.apart.seated
 
     rounded : HasGoneRound kernels frames whole pieces (record { tenants = tenants; pool = pool; present = present; memory = host })
         → EndsRound kernels frames whole pieces host (map ended_of tenants)
-    rounded gone = record { last = record { tenants = tenants; pool = pool; present = present; memory = host }; gone = gone; memory_is = refl; ended_are = refl }
+    rounded gone = record {
+      last = record { tenants = tenants; pool = pool; present = present; memory = host };
+      gone = gone;
+      memory_is = refl;
+      ended_are = refl;
+    }
 
     pub ends_shared : HasGoneRound kernels frames whole pieces (record { tenants = tenants; pool = pool; present = present; memory = host })
         → SharedRun kernels whole frames before now host (shared_text pieces (map ended_of tenants)) (map ended_of tenants)
@@ -98,11 +113,13 @@ module _ (kernels : List Kernel) (frames : ℕ) (whole : List Slice) (pieces : L
       rounds = rounded gone;
     }
 
-    pub ends_put : (last : Option (List ℕ)) → Appends new last (bound_texts 0 (map ended_of tenants)) → Appends old last (shared_text pieces (map ended_of tenants))
+    pub ends_put : (last : Option (List ℕ)) → Appends new last (bound_texts 0 (map ended_of tenants))
+        → Appends old last (shared_text pieces (map ended_of tenants))
     ends_put last put = both old new last (flat_map piece_text pieces) (bound_texts 0 (map ended_of tenants)) h.text put
 
     pub ends_fail : HasGoneRound kernels frames whole pieces (record { tenants = tenants; pool = pool; present = present; memory = host })
-        → (last : Option (List ℕ)) → AppendsFront new last (bound_texts 0 (map ended_of tenants)) → FailsAtEnd kernels whole frames host old last
+        → (last : Option (List ℕ)) → AppendsFront new last (bound_texts 0 (map ended_of tenants))
+        → FailsAtEnd kernels whole frames host old last
     ends_fail gone last put = record {
       pieces = pieces;
       ended = map ended_of tenants;

@@ -27,7 +27,8 @@ on_err (Ok x) p = tt
 on_err (Err e) p = p
 
 -- what a turn that pauses at a stop says
-pub halting : (m : Setting) (bound : ℕ) (last new : State) (end : Set) (paused : Pause) (stop : Stop) → paused ≡ pause.Stopped stop → PausesAs m bound last new end (Ok paused) → (last.step < bound) × (new.step ≡ last.step) × StopHolds m last stop
+pub halting : (m : Setting) (bound : ℕ) (last new : State) (end : Set) (paused : Pause) (stop : Stop) → paused ≡ pause.Stopped stop
+    → PausesAs m bound last new end (Ok paused) → (last.step < bound) × (new.step ≡ last.step) × StopHolds m last stop
 halting m bound last new end pause.Reached stop is h = absurd (cc)
 halting m bound last new end (pause.Stopped other) stop is h =
     (h.0, h.1, subst (λ (s : Stop). StopHolds m last s) (same other stop is) (record { set = end; allowed = h.2; halts = h.3 }))
@@ -36,7 +37,8 @@ halting m bound last new end (pause.Stopped other) stop is h =
     same a b e = cc
 
 -- each step reported
-pub reports_counted : (m : Setting) (old : State) (sets : List Set) (reports : List Report) (last : State) → Steps m old sets reports last → last.step ≡ old.step + length reports
+pub reports_counted : (m : Setting) (old : State) (sets : List Set) (reports : List Report) (last : State) → Steps m old sets reports last
+    → last.step ≡ old.step + length reports
 unfolding Steps
 reports_counted m old [] reports last h =
     let is = ap (λ (b : State). b.step) h.1 in
@@ -56,7 +58,8 @@ module _ (kernel : Kernel) (number steps : ℕ) (host : List ℕ) (old : Tenant)
   first = state_of of_roots m old.guest host
 
   -- in the lines of its steps
-  pub failed_in_steps : (sets : List Set) (reports : List Report) (last : State) → Steps m first sets reports last → last.step ≤ old.guest.step + steps → AppendsFront taken tells (tagged (tag_of number) (lines_of (trace_of reports)))
+  pub failed_in_steps : (sets : List Set) (reports : List Report) (last : State) → Steps m first sets reports last
+      → last.step ≤ old.guest.step + steps → AppendsFront taken tells (tagged (tag_of number) (lines_of (trace_of reports)))
       → HasFailed kernel number steps host old taken tells
   failed_in_steps sets reports last h few front = record {
     sets = sets;
@@ -67,23 +70,30 @@ module _ (kernel : Kernel) (number steps : ℕ) (host : List ℕ) (old : Tenant)
     few = (let n = reports_counted m first sets reports last h in omega (arith, n, few));
     count = refl;
     stops = tt;
-    front = subst (λ (l : List ℕ). AppendsFront taken tells l) (sym (append-nil (tagged (tag_of number) (lines_of (trace_of reports))))) front;
+    front =
+        subst (λ (l : List ℕ). AppendsFront taken tells l) (sym (append-nil (tagged (tag_of number) (lines_of (trace_of reports))))) front;
   }
 
   -- in the line of its stop
-  pub failed_at_stop : (sets : List Set) (reports : List Report) (last new : State) (set : Set) (paused : Pause) (stop : Stop) (ended : Ended) → paused ≡ pause.Stopped stop → Steps m first sets reports last
-      → PausesAs m (old.guest.step + steps) last new set (Ok paused) → Appends taken between (tagged (tag_of number) (lines_of (trace_of reports)))
-      → ended.steps ≡ new.step → ended.end ≡ end.Stopped stop → AppendsFront between tells (tagged (tag_of number) (end_line ended.steps ended.end)) → HasFailed kernel number steps host old taken tells
-  failed_at_stop sets reports last new set paused stop ended is h ends put count end_is front = let e = halting m (old.guest.step + steps) last new set paused stop is ends in record {
-    sets = sets;
-    piece = record { kernel = number; reports = reports; steps = last.step; stop = Some stop };
-    last = last;
-    number_is = refl;
-    steps_are = h;
-    few = (let n = reports_counted m first sets reports last h in let less = e.0 in omega (arith, n, less));
-    count = refl;
-    stops = e.2;
-    front = then_front taken between tells (tagged (tag_of number) (lines_of (trace_of reports))) (tagged (tag_of number) (end_line last.step (end.Stopped stop))) put
-        (subst (λ (k : ℕ). AppendsFront between tells (tagged (tag_of number) (end_line k (end.Stopped stop)))) (count ∙ e.1)
-        (subst (λ (x : End). AppendsFront between tells (tagged (tag_of number) (end_line ended.steps x))) end_is front));
-  }
+  pub failed_at_stop : (sets : List Set) (reports : List Report) (last new : State) (set : Set) (paused : Pause) (stop : Stop)
+      (ended : Ended) → paused ≡ pause.Stopped stop → Steps m first sets reports last
+      → PausesAs m (old.guest.step + steps) last new set (Ok paused)
+      → Appends taken between (tagged (tag_of number) (lines_of (trace_of reports)))
+      → ended.steps ≡ new.step → ended.end ≡ end.Stopped stop
+      → AppendsFront between tells (tagged (tag_of number) (end_line ended.steps ended.end))
+      → HasFailed kernel number steps host old taken tells
+  failed_at_stop sets reports last new set paused stop ended is h ends put count end_is front =
+      let e = halting m (old.guest.step + steps) last new set paused stop is ends in record {
+        sets = sets;
+        piece = record { kernel = number; reports = reports; steps = last.step; stop = Some stop };
+        last = last;
+        number_is = refl;
+        steps_are = h;
+        few = (let n = reports_counted m first sets reports last h in let less = e.0 in omega (arith, n, less));
+        count = refl;
+        stops = e.2;
+        front = then_front taken between tells (tagged (tag_of number) (lines_of (trace_of reports)))
+            (tagged (tag_of number) (end_line last.step (end.Stopped stop))) put
+            (subst (λ (k : ℕ). AppendsFront between tells (tagged (tag_of number) (end_line k (end.Stopped stop)))) (count ∙ e.1)
+            (subst (λ (x : End). AppendsFront between tells (tagged (tag_of number) (end_line ended.steps x))) end_is front));
+      }

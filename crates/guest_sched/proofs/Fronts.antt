@@ -15,11 +15,14 @@ pub front_front : (n : ℕ) (x y : List ℕ) → n ≤ length x → take n (take
 front_front n x y room = take_at (take n x) y n (length-take-le n x room)
 
 -- memories of one length that change places, but for what stands after their fronts
-pub back_put : (n : ℕ) (host ram : List ℕ) → length ram ≡ length host → n ≤ length host → with_part ram n (part host n (length host - n)) ≡ with_part host 0 (part ram 0 n)
+pub back_put : (n : ℕ) (host ram : List ℕ) → length ram ≡ length host → n ≤ length host → with_part ram n (part host n (length host - n))
+    ≡ with_part host 0 (part ram 0 n)
 unfolding with_part part
 back_put n host ram same room =
-    let all : take (length host - n) (drop n host) ≡ drop n host = take_all (length host - n) (drop n host) (omega (arith, length-drop n host)) in
-    let none : drop (n + length (drop n host)) ram ≡ [] = drop_all (n + length (drop n host)) ram (omega (arith, same, room, length-drop n host)) in
+    let all : take (length host - n) (drop n host) ≡ drop n host =
+    take_all (length host - n) (drop n host) (omega (arith, length-drop n host)) in
+    let none : drop (n + length (drop n host)) ram ≡ [] =
+    drop_all (n + length (drop n host)) ram (omega (arith, same, room, length-drop n host)) in
     ap (λ (z : List ℕ). take n ram ++ (z ++ drop (n + length z) ram)) all
     ∙ ap (λ (z : List ℕ). take n ram ++ (drop n host ++ z)) none
     ∙ ap (λ (z : List ℕ). take n ram ++ z) (append-nil (drop n host))
@@ -27,7 +30,8 @@ back_put n host ram same room =
 
 -- one memory leaves the host's, and another comes
 module _ (n : ℕ) (host mid last old next left : List ℕ) (old_room : n ≤ length old) (next_room : n ≤ length next)
-    (mid_is : mid ≡ with_part host 0 (part old 0 n)) (left_is : take n left ≡ take n host) (last_is : last ≡ with_part mid 0 (part next 0 n))
+    (mid_is : mid ≡ with_part host 0 (part old 0 n)) (left_is : take n left ≡ take n host)
+    (last_is : last ≡ with_part mid 0 (part next 0 n))
   where
     mid_behind : drop n mid ≡ drop n host
     mid_behind = ap (drop n) (mid_is ∙ front_put n host old old_room) ∙ behind_front n old (drop n host) old_room

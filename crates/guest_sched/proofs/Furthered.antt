@@ -49,12 +49,14 @@ use Rattle.guest_sched.proofs.Turned.{seat_here, piece_of, turned, Turned, whole
 use Rattle.guest_sched.proofs.Turning.{flat_append, turns_on, counts_on, reports_on, text_on, reports_off, text_off}
 
 -- a kernel has met the stop at which its turn paused, or none
-stops_so : (number : ℕ) (t : Tenant) (taken tells : Option (List ℕ)) (pause : Pause) → EndsSo number t taken tells pause → end_with t.stop ≡ end_of pause
+stops_so : (number : ℕ) (t : Tenant) (taken tells : Option (List ℕ)) (pause : Pause) → EndsSo number t taken tells pause
+    → end_with t.stop ≡ end_of pause
 stops_so number t taken tells pauses.Reached ends = ap end_with ends.0
 stops_so number t taken tells (pauses.Stopped stop) ends = ap end_with ends.0
 
 -- the turn over the kernel's own setting
-at_frames : (k : Kernel) (number steps : ℕ) (host host' : List ℕ) (t t' : Tenant) (now now' : Counts) (new between : Option (List ℕ)) (pause : Pause) (frames n : ℕ) → t.guest.frames ≡ frames → number ≡ n
+at_frames : (k : Kernel) (number steps : ℕ) (host host' : List ℕ) (t t' : Tenant) (now now' : Counts) (new between : Option (List ℕ))
+    (pause : Pause) (frames n : ℕ) → t.guest.frames ≡ frames → number ≡ n
     → TurnAs (wedge k.image k.script.list t.guest.frames) (tag_of number) (t.guest.step + steps)
     (state_of of_roots (wedge k.image k.script.list t.guest.frames) t.guest host)
     (state_of of_roots (wedge k.image k.script.list t.guest.frames) t'.guest host')
@@ -65,11 +67,14 @@ at_frames : (k : Kernel) (number steps : ℕ) (host host' : List ℕ) (t t' : Te
     now now' new between (pages_kept of_roots t.guest.shadows host) t.guest.fills t'.guest.fills (Ok pause)
 at_frames k number steps host host' t t' now now' new between pause frames n is same turn =
     subst (λ (x : ℕ). TurnAs (alone k frames) (tag_of x) (t.guest.step + steps) (state_of of_roots (alone k frames) t.guest host)
-    (state_of of_roots (alone k frames) t'.guest host') now now' new between (pages_kept of_roots t.guest.shadows host) t.guest.fills t'.guest.fills (Ok pause)) same
+    (state_of of_roots (alone k frames) t'.guest host') now now' new between (pages_kept of_roots t.guest.shadows host) t.guest.fills
+    t'.guest.fills (Ok pause)) same
     (subst (λ (f : ℕ). TurnAs (alone k f) (tag_of number) (t.guest.step + steps) (state_of of_roots (alone k f) t.guest host)
-    (state_of of_roots (alone k f) t'.guest host') now now' new between (pages_kept of_roots t.guest.shadows host) t.guest.fills t'.guest.fills (Ok pause)) is turn)
+    (state_of of_roots (alone k f) t'.guest host') now now' new between (pages_kept of_roots t.guest.shadows host) t.guest.fills
+    t'.guest.fills (Ok pause)) is turn)
 
-same_counts : (c : Counts) (retired passed : ℕ) → c.retired ≡ retired → c.passed ≡ passed → c ≡ record { retired = retired; passed = passed }
+same_counts : (c : Counts) (retired passed : ℕ) → c.retired ≡ retired → c.passed ≡ passed
+    → c ≡ record { retired = retired; passed = passed }
 same_counts c retired passed a b = ap (λ (x : ℕ). counts_with x c.passed) a ∙ ap (λ (x : ℕ). counts_with retired x) b
   where
     counts_with : ℕ → ℕ → Counts
@@ -79,31 +84,39 @@ pub any_kernel : (ks : List Kernel) (n : ℕ) → n < length ks → Kernel
 any_kernel [] n lt = absurd (omega (arith, lt))
 any_kernel (k ∷ ks) n lt = k
 
-met_stop : (n frames : ℕ) (whole done : List Slice) (pieces : List Piece) (k : Kernel) (s : Seat) (stop : Stop) (o : Option Stop) → o ≡ Some stop → StandsSo n frames whole done pieces k s o → has_stopped n pieces ≡ true
+met_stop : (n frames : ℕ) (whole done : List Slice) (pieces : List Piece) (k : Kernel) (s : Seat) (stop : Stop) (o : Option Stop)
+    → o ≡ Some stop → StandsSo n frames whole done pieces k s o → has_stopped n pieces ≡ true
 met_stop n frames whole done pieces k s stop None is h = absurd (cc)
 met_stop n frames whole done pieces k s stop (Some other) is h = h.2
 
 -- the text of first steps, with the line of the stop after them if there is one
-begun_as : (m : Setting) (reports : List Report) (p : Piece) (pieces : List Piece) (n : ℕ) (last then_ : State) (text : List ℕ) → reports_of n pieces ≡ reports ++ p.reports → own_text n pieces ≡ text ++ (lines_of (trace_of p.reports) ++ stop_line p.steps p.stop)
-    → text ≡ lines_of (trace_of reports) → p.steps ≡ then_.step → IfSome p.stop (StopHolds m last) → ((stop : Stop) → StopHolds m last stop → StopHolds m then_ stop) → IsBegun m (reports_of n pieces) then_ (own_text n pieces)
+begun_as : (m : Setting) (reports : List Report) (p : Piece) (pieces : List Piece) (n : ℕ) (last then_ : State) (text : List ℕ)
+    → reports_of n pieces ≡ reports ++ p.reports → own_text n pieces ≡ text ++ (lines_of (trace_of p.reports) ++ stop_line p.steps p.stop)
+    → text ≡ lines_of (trace_of reports) → p.steps ≡ then_.step → IfSome p.stop (StopHolds m last)
+    → ((stop : Stop) → StopHolds m last stop → StopHolds m then_ stop) → IsBegun m (reports_of n pieces) then_ (own_text n pieces)
 begun_as m reports p pieces n last then_ text r t is count stops on = begun p.stop refl stops
   where
     joined : text ++ lines_of (trace_of p.reports) ≡ lines_of (trace_of (reports_of n pieces))
-    joined = ap (λ (l : List ℕ). l ++ lines_of (trace_of p.reports)) is ∙ sym (reported reports p.reports) ∙ ap (λ (l : List Report). lines_of (trace_of l)) (sym r)
+    joined = ap (λ (l : List ℕ). l ++ lines_of (trace_of p.reports)) is ∙ sym (reported reports p.reports)
+        ∙ ap (λ (l : List Report). lines_of (trace_of l)) (sym r)
 
     begun : (o : Option Stop) → o ≡ p.stop → IfSome o (StopHolds m last) → IsBegun m (reports_of n pieces) then_ (own_text n pieces)
-    begun None e h = inl (t ∙ ap (λ (o : Option Stop). text ++ (lines_of (trace_of p.reports) ++ stop_line p.steps o)) (sym e) ∙ ap (λ (l : List ℕ). text ++ l) (append-nil (lines_of (trace_of p.reports))) ∙ joined)
+    begun None e h =
+        inl (t ∙ ap (λ (o : Option Stop). text ++ (lines_of (trace_of p.reports) ++ stop_line p.steps o)) (sym e)
+        ∙ ap (λ (l : List ℕ). text ++ l) (append-nil (lines_of (trace_of p.reports))) ∙ joined)
     begun (Some stop) e h = inr (
       stop,
       on stop h,
       t ∙ ap (λ (o : Option Stop). text ++ (lines_of (trace_of p.reports) ++ stop_line p.steps o)) (sym e)
           ∙ sym (append_assoc text (lines_of (trace_of p.reports)) (end_line p.steps (Stopped stop)))
           ∙ ap (λ (l : List ℕ). l ++ end_line p.steps (Stopped stop)) joined
-          ∙ whole_text (trace_of (reports_of n pieces)) p.steps stop ∙ ap (λ (c : ℕ). text_of (trace_of (reports_of n pieces)) c (Stopped stop)) count,
+          ∙ whole_text (trace_of (reports_of n pieces)) p.steps stop
+          ∙ ap (λ (c : ℕ). text_of (trace_of (reports_of n pieces)) c (Stopped stop)) count,
     )
 
 -- a kernel that has come so far has begun
-begun_so : (n frames : ℕ) (whole done : List Slice) (pieces pieces' : List Piece) (k : Kernel) (s : Seat) (stop : Option Stop) → reports_of n pieces' ≡ reports_of n pieces → own_text n pieces' ≡ own_text n pieces
+begun_so : (n frames : ℕ) (whole done : List Slice) (pieces pieces' : List Piece) (k : Kernel) (s : Seat) (stop : Option Stop)
+    → reports_of n pieces' ≡ reports_of n pieces → own_text n pieces' ≡ own_text n pieces
     → StandsSo n frames whole done pieces k s stop → BeganAlone (alone k frames) (reports_of n pieces') (own_text n pieces')
 begun_so n frames whole done pieces pieces' k s None r t h = record {
   sets = h.0.sets;
@@ -115,11 +128,19 @@ begun_so n frames whole done pieces pieces' k s (Some stop) r t h = record {
   sets = h.0.sets;
   last = h.0.last;
   steps = subst (λ (l : List Report). Steps (alone k frames) (boot (alone k frames)) h.0.sets l h.0.last) (sym r) h.0.steps;
-  text_is = inr (stop, h.0.holds, t ∙ h.1 ∙ ap (λ (l : List Report). text_of (trace_of l) s.running.step (Stopped stop)) (sym r) ∙ ap (λ (c : ℕ). text_of (trace_of (reports_of n pieces')) c (Stopped stop)) h.0.count_is);
+  text_is = inr (
+    stop,
+    h.0.holds,
+    t ∙ h.1 ∙ ap (λ (l : List Report). text_of (trace_of l) s.running.step (Stopped stop)) (sym r)
+        ∙ ap (λ (c : ℕ). text_of (trace_of (reports_of n pieces')) c (Stopped stop)) h.0.count_is,
+  );
 }
 
-each_began : (frames : ℕ) (whole done : List Slice) (pieces : List Piece) (slice : Slice) (p : Piece) → p.kernel ≡ slice.kernel → (i : ℕ) (ks : List Kernel) (ss : List Seat) (stops : List (Option Stop)) (dk : Kernel) → EachStands i frames whole done pieces ks ss stops
-    → ((j m : ℕ) → m ≡ i + j → m ≡ slice.kernel → BeganAlone (alone (get_or ks j dk) frames) (reports_of m (pieces ++ p ∷ [])) (own_text m (pieces ++ p ∷ []))) → EachBegan i frames (pieces ++ p ∷ []) ks
+each_began : (frames : ℕ) (whole done : List Slice) (pieces : List Piece) (slice : Slice) (p : Piece) → p.kernel ≡ slice.kernel
+    → (i : ℕ) (ks : List Kernel) (ss : List Seat) (stops : List (Option Stop)) (dk : Kernel)
+    → EachStands i frames whole done pieces ks ss stops
+    → ((j m : ℕ) → m ≡ i + j → m ≡ slice.kernel → BeganAlone (alone (get_or ks j dk) frames) (reports_of m (pieces ++ p ∷ []))
+    (own_text m (pieces ++ p ∷ []))) → EachBegan i frames (pieces ++ p ∷ []) ks
 each_began frames whole done pieces slice p mine i [] [] [] dk h f = tt
 each_began frames whole done pieces slice p mine i [] [] (t ∷ stops) dk h f = absurd h
 each_began frames whole done pieces slice p mine i [] (s ∷ ss) stops dk h f = absurd h
@@ -136,8 +157,10 @@ each_began frames whole done pieces slice p mine i (k ∷ ks) (s ∷ ss) (t ∷ 
 )
 
 -- what is known of all of them before the turn
-module _ (kernels : List Kernel) (frames : ℕ) (whole done : List Slice) (pieces : List Piece) (ts : List Tenant) (pool : Pool) (present : ℕ) (host : List ℕ) (before now : Counts) (old new : Option (List ℕ))
-    (b : IsBetween kernels frames whole done pieces ts pool present host before now old new) (slice : Slice) (next : IsNext (length kernels) whole done slice)
+module _ (kernels : List Kernel) (frames : ℕ) (whole done : List Slice) (pieces : List Piece) (ts : List Tenant) (pool : Pool) (present : ℕ)
+    (host : List ℕ) (before now : Counts) (old new : Option (List ℕ))
+    (b : IsBetween kernels frames whole done pieces ts pool present host before now old new) (slice : Slice)
+    (next : IsNext (length kernels) whole done slice)
   where
     module _ (here : present ≡ slice.kernel) (dk : Kernel) (d : Tenant) (live : (get_or ts present d).stop ≡ None) where
       abbrev k : Kernel
@@ -159,21 +182,28 @@ module _ (kernels : List Kernel) (frames : ℕ) (whole done : List Slice) (piece
       stands_live = subst (λ (o : Option Stop). StandsSo present frames whole done pieces k (seat_here k host t) o) live is_here.stands
 
       grows : bound_of present (done ++ slice ∷ []) ≡ bound_of present done + slice.steps
-      grows = subst (λ (x : ℕ). bound_of x (done ++ slice ∷ []) ≡ bound_of x done + slice.steps) (sym here) (sums_of (length kernels) whole done slice next).0
+      grows = subst (λ (x : ℕ). bound_of x (done ++ slice ∷ []) ≡ bound_of x done + slice.steps) (sym here)
+          (sums_of (length kernels) whole done slice next).0
 
       pub within : t.guest.step + slice.steps ≤ bound_of present whole
       within =
-          let most = subst (λ (x : ℕ). bound_of x done + slice.steps ≤ bound_of x whole) (sym here) (sums_of (length kernels) whole done slice next).1 in
+          let most = subst (λ (x : ℕ). bound_of x done + slice.steps ≤ bound_of x whole) (sym here)
+          (sums_of (length kernels) whole done slice next).1 in
           let step = stands_live.1 in
           omega (arith, most, step)
 
-      module _ (t' : Tenant) (pool' : Pool) (host' : List ℕ) (now' : Counts) (new' : Option (List ℕ)) (h : HasTurned k slice.kernel slice.steps host host' t t' now now' new new') (went : HasGoneOn k pool pool' host host' t t') where
+      module _ (t' : Tenant) (pool' : Pool) (host' : List ℕ) (now' : Counts) (new' : Option (List ℕ))
+          (h : HasTurned k slice.kernel slice.steps host host' t t' now now' new new') (went : HasGoneOn k pool pool' host host' t t') where
         turn : TurnAs (alone k frames) (tag_of present) (t.guest.step + slice.steps) (state_of of_roots (alone k frames) t.guest host)
-            (state_of of_roots (alone k frames) t'.guest host') now now' new h.between (pages_kept of_roots t.guest.shadows host) t.guest.fills t'.guest.fills (Ok h.pause)
-        turn = at_frames k slice.kernel slice.steps host host' t t' now now' new h.between h.pause frames present frames_are (sym here) h.turn
+            (state_of of_roots (alone k frames) t'.guest host') now now' new h.between (pages_kept of_roots t.guest.shadows host)
+            t.guest.fills t'.guest.fills (Ok h.pause)
+        turn =
+            at_frames k slice.kernel slice.steps host host' t t' now now' new h.between h.pause frames present frames_are (sym here) h.turn
 
-        made : Turned present slice.steps frames whole done slice pieces k host host' t t' now now' new h.between new' (sym here) refl within grows may_go.filled h.few stands_live turn.reports
-        made = turned present slice.steps frames whole done slice pieces k host host' t t' now now' new h.between new' (sym here) refl within grows may_go.filled h.few stands_live h.pause turn
+        made : Turned present slice.steps frames whole done slice pieces k host host' t t' now now' new h.between new' (sym here) refl
+            within grows may_go.filled h.few stands_live turn.reports
+        made = turned present slice.steps frames whole done slice pieces k host host' t t' now now' new h.between new' (sym here) refl
+            within grows may_go.filled h.few stands_live h.pause turn
             (subst (λ (x : ℕ). EndsSo x t' h.between new' h.pause) (sym here) h.ends)
 
         p : Piece
@@ -192,31 +222,42 @@ module _ (kernels : List Kernel) (frames : ℕ) (whole done : List Slice) (piece
         apart_at =
             let sp = split frames host host' present 0 present kernels ts dk d t' (omega arith) b.rooms.there known b.rooms.theirs in
             subst (λ (l : List Seat). AreApart frames pool' host' l) (sym sp.is')
-            (one_moves frames pool pool' host host' sp.before sp.after (seat_here k host t) (seat_here k host' t') (subst (λ (l : List Seat). AreApart frames pool host l) sp.is b.apart) went.keeps stands seated refl refl)
+            (one_moves frames pool pool' host host' sp.before sp.after (seat_here k host t) (seat_here k host' t')
+            (subst (λ (l : List Seat). AreApart frames pool host l) sp.is b.apart) went.keeps stands seated refl refl)
 
-        each_at : EachStands 0 frames whole (done ++ slice ∷ []) (pieces ++ p ∷ []) kernels (seats_from frames host' present 0 kernels (set ts present t')) (stops_of (set ts present t'))
+        each_at : EachStands 0 frames whole (done ++ slice ∷ []) (pieces ++ p ∷ []) kernels
+            (seats_from frames host' present 0 kernels (set ts present t')) (stops_of (set ts present t'))
         unfolding p
         each_at =
             let sp = split frames host host' present 0 present kernels ts dk d t' (omega arith) b.rooms.there known b.rooms.theirs in
-            let same = others_same frames pool pool' host host' sp.before sp.after (seat_here k host t) (seat_here k host' t') (subst (λ (l : List Seat). AreApart frames pool host l) sp.is b.apart) went.keeps stands in
-            subst (λ (l : List (Option Stop)). EachStands 0 frames whole (done ++ slice ∷ []) (pieces ++ p ∷ []) kernels (seats_from frames host' present 0 kernels (set ts present t')) l) (sym (map-set (λ (x : Tenant). x.stop) ts present t'))
-            (subst (λ (l : List Seat). EachStands 0 frames whole (done ++ slice ∷ []) (pieces ++ p ∷ []) kernels l (set (stops_of ts) present t'.stop)) (sym sp.is')
-            (went_stands frames whole done pieces slice p here 0 present sp.before (map (behind_as frames host') sp.before) sp.after (map (behind_as frames host') sp.after) (seat_here k host t) (seat_here k host' t') kernels (stops_of ts) dk None t'.stop
+            let same = others_same frames pool pool' host host' sp.before sp.after (seat_here k host t) (seat_here k host' t')
+            (subst (λ (l : List Seat). AreApart frames pool host l) sp.is b.apart) went.keeps stands in
+            subst (λ (l : List (Option Stop)). EachStands 0 frames whole (done ++ slice ∷ []) (pieces ++ p ∷ []) kernels
+            (seats_from frames host' present 0 kernels (set ts present t')) l) (sym (map-set (λ (x : Tenant). x.stop) ts present t'))
+            (subst (λ (l : List Seat). EachStands 0 frames whole (done ++ slice ∷ []) (pieces ++ p ∷ []) kernels l
+            (set (stops_of ts) present t'.stop)) (sym sp.is')
+            (went_stands frames whole done pieces slice p here 0 present sp.before (map (behind_as frames host') sp.before) sp.after
+            (map (behind_as frames host') sp.after) (seat_here k host t) (seat_here k host' t') kernels (stops_of ts) dk None t'.stop
             sp.len (let z = here in omega (arith, z)) same.0 same.1
             (subst (λ (l : List Seat). EachStands 0 frames whole done pieces kernels l (stops_of ts)) sp.is b.each)
-            (λ k' is _. subst (λ (x : Kernel). StandsSo slice.kernel frames whole (done ++ slice ∷ []) (pieces ++ p ∷ []) x (seat_here k host' t') t'.stop) (sym is)
-            (subst (λ (x : ℕ). StandsSo x frames whole (done ++ slice ∷ []) (pieces ++ p ∷ []) k (seat_here k host' t') t'.stop) here made.stands))))
+            (λ k' is _. subst (λ (x : Kernel). StandsSo slice.kernel frames whole (done ++ slice ∷ []) (pieces ++ p ∷ []) x
+            (seat_here k host' t') t'.stop) (sym is)
+            (subst (λ (x : ℕ). StandsSo x frames whole (done ++ slice ∷ []) (pieces ++ p ∷ []) k (seat_here k host' t') t'.stop)
+            here made.stands))))
 
         counts_at : now' ≡ counts_over (sites_in kernels) before (pieces ++ p ∷ [])
         unfolding p
         counts_at =
             let sites = sites_at kernels present dk known in
             same_counts now' _ _
-            (turn.counts.retired ∙ ap (λ (c : Counts). c.retired + direct_count k.image.sites turn.reports) b.counts ∙ ap (λ (l : List Site). (counts_over (sites_in kernels) before pieces).retired + direct_count l turn.reports) (sym sites))
-            (turn.counts.passed ∙ ap (λ (c : Counts). passed_digest k.image.sites c.passed turn.reports) b.counts ∙ ap (λ (l : List Site). passed_digest l (counts_over (sites_in kernels) before pieces).passed turn.reports) (sym sites))
+            (turn.counts.retired ∙ ap (λ (c : Counts). c.retired + direct_count k.image.sites turn.reports) b.counts
+            ∙ ap (λ (l : List Site). (counts_over (sites_in kernels) before pieces).retired + direct_count l turn.reports) (sym sites))
+            (turn.counts.passed ∙ ap (λ (c : Counts). passed_digest k.image.sites c.passed turn.reports) b.counts
+            ∙ ap (λ (l : List Site). passed_digest l (counts_over (sites_in kernels) before pieces).passed turn.reports) (sym sites))
             ∙ sym (counts_on (sites_in kernels) before pieces p)
 
-        betweens : IsBetween kernels frames whole (done ++ slice ∷ []) (pieces ++ p ∷ []) (set ts present t') pool' present host' before now' old new'
+        betweens : IsBetween kernels frames whole (done ++ slice ∷ []) (pieces ++ p ∷ []) (set ts present t') pool' present host'
+            before now' old new'
         unfolding p
         betweens = record {
           rooms = record {
@@ -225,7 +266,9 @@ module _ (kernels : List Kernel) (frames : ℕ) (whole done : List Slice) (piece
             there = (let n = length-set ts present t' in let lt = b.rooms.there in omega (arith, n, lt));
             size = b.rooms.size;
             room = (let r = b.rooms.room in let n = went.keeps.size in omega (arith, r, n));
-            theirs = left_rooms frames present ts (set ts present t') t' b.rooms.there refl (let r = ap (λ (m : List ℕ). length m) went.ram in let mine = b.rooms.theirs present d b.rooms.there in omega (arith, r, mine)) b.rooms.theirs;
+            theirs = left_rooms frames present ts (set ts present t') t' b.rooms.there refl
+                (let r = ap (λ (m : List ℕ). length m) went.ram in let mine = b.rooms.theirs present d b.rooms.there in
+                omega (arith, r, mine)) b.rooms.theirs;
             pool_is = went.keeps.same.1 ∙ b.rooms.pool_is;
           };
           apart = apart_at;
@@ -234,7 +277,9 @@ module _ (kernels : List Kernel) (frames : ℕ) (whole done : List Slice) (piece
             steps = subst (λ (x : ℕ). MakesSteps (has_stopped x pieces) slice.steps turn.reports t'.stop) here made.makes;
           });
           each = each_at;
-          text = subst (λ (l : List ℕ). Appends old new' l) (ap (λ (l : List ℕ). flat_map piece_text pieces ++ l) (sym (append-nil (piece_text p))) ∙ sym (flat_append piece_text pieces (p ∷ [])))
+          text = subst (λ (l : List ℕ). Appends old new' l)
+              (ap (λ (l : List ℕ). flat_map piece_text pieces ++ l) (sym (append-nil (piece_text p)))
+              ∙ sym (flat_append piece_text pieces (p ∷ [])))
               (both old new new' (flat_map piece_text pieces) (piece_text p) b.text made.text);
           counts = counts_at;
           retired = (
@@ -246,7 +291,8 @@ module _ (kernels : List Kernel) (frames : ℕ) (whole done : List Slice) (piece
               omega (arith, up, few, steps, most, was, length-append done (slice ∷ [])));
         }
 
-        makes : MakesTurn kernels frames slice p (record { tenants = ts; pool = pool; present = present; memory = host }) (record { tenants = set ts present t'; pool = pool'; present = present; memory = host' })
+        makes : MakesTurn kernels frames slice p (record { tenants = ts; pool = pool; present = present; memory = host })
+            (record { tenants = set ts present t'; pool = pool'; present = present; memory = host' })
         unfolding p
         makes = record {
           number = (refl, refl);
@@ -269,8 +315,11 @@ module _ (kernels : List Kernel) (frames : ℕ) (whole done : List Slice) (piece
           stop_is = stops_so slice.kernel t' h.between new' h.pause h.ends;
         }
 
-        pub went_between : (p : Piece) × MakesTurn kernels frames slice p (record { tenants = ts; pool = pool; present = present; memory = host }) (record { tenants = set ts present t'; pool = pool'; present = present; memory = host' })
-            × IsBetween kernels frames whole (done ++ slice ∷ []) (pieces ++ p ∷ []) (set ts present t') pool' present host' before now' old new'
+        pub went_between : (p : Piece)
+            × MakesTurn kernels frames slice p (record { tenants = ts; pool = pool; present = present; memory = host })
+            (record { tenants = set ts present t'; pool = pool'; present = present; memory = host' })
+            × IsBetween kernels frames whole (done ++ slice ∷ []) (pieces ++ p ∷ []) (set ts present t') pool' present host'
+            before now' old new'
         went_between = (p, makes, betweens)
 
     -- a kernel that has met a stop before
@@ -285,25 +334,35 @@ module _ (kernels : List Kernel) (frames : ℕ) (whole done : List Slice) (piece
 
       has_met : has_stopped slice.kernel pieces ≡ true
       has_met =
-          let lt : slice.kernel < length (stops_of ts) = (let n = length-map ts (λ (t : Tenant). t.stop) in let k = n_known in omega (arith, n, k)) in
+          let lt : slice.kernel < length (stops_of ts) =
+          (let n = length-map ts (λ (t : Tenant). t.stop) in let k = n_known in omega (arith, n, k)) in
           let dk = any_kernel kernels slice.kernel (next_slice (length kernels) whole done slice next).known in
           let ds = seat_here dk host d in
           let zero_is : 0 + slice.kernel ≡ slice.kernel = omega arith in
-          met_stop slice.kernel frames whole done pieces (get_or kernels slice.kernel dk) (get_or (seats_from frames host present 0 kernels ts) slice.kernel ds) stop (get_or (stops_of ts) slice.kernel None) (stop_at slice.kernel slice.kernel (omega arith) lt refl)
-          (subst (λ (x : ℕ). StandsSo x frames whole done pieces (get_or kernels slice.kernel dk) (get_or (seats_from frames host present 0 kernels ts) slice.kernel ds) (get_or (stops_of ts) slice.kernel None)) zero_is
-          (at_place 0 slice.kernel frames whole done pieces kernels (seats_from frames host present 0 kernels ts) (stops_of ts) dk ds None lt b.each))
+          met_stop slice.kernel frames whole done pieces (get_or kernels slice.kernel dk)
+          (get_or (seats_from frames host present 0 kernels ts) slice.kernel ds) stop (get_or (stops_of ts) slice.kernel None)
+          (stop_at slice.kernel slice.kernel (omega arith) lt refl)
+          (subst (λ (x : ℕ). StandsSo x frames whole done pieces (get_or kernels slice.kernel dk)
+          (get_or (seats_from frames host present 0 kernels ts) slice.kernel ds) (get_or (stops_of ts) slice.kernel None)) zero_is
+          (at_place 0 slice.kernel frames whole done pieces kernels (seats_from frames host present 0 kernels ts) (stops_of ts)
+          dk ds None lt b.each))
 
-      pub skipped_between : (p : Piece) × IsBetween kernels frames whole (done ++ slice ∷ []) (pieces ++ p ∷ []) ts pool present host before now old new
+      pub skipped_between : (p : Piece) × IsBetween kernels frames whole (done ++ slice ∷ []) (pieces ++ p ∷ []) ts pool present
+          host before now old new
       skipped_between =
           let p = piece_of slice.kernel [] 0 None in (
             p,
             record {
               rooms = b.rooms;
               apart = b.apart;
-              turns = turns_on [] done pieces slice p b.turns (record { kernel_is = refl; steps = subst (λ x. MakesSteps x slice.steps [] None) (sym has_met) (refl, refl) });
-              each = skip_stands frames whole done pieces slice p refl 0 kernels (seats_from frames host present 0 kernels ts) (stops_of ts) stop refl refl stop_at b.each;
-              text = subst (λ (l : List ℕ). Appends old new l) (sym (flat_append piece_text pieces (p ∷ []) ∙ append-nil (flat_map piece_text pieces))) b.text;
-              counts = b.counts ∙ same_counts (counts_over (sites_in kernels) before pieces) _ _ (omega arith) refl ∙ sym (counts_on (sites_in kernels) before pieces p);
+              turns = turns_on [] done pieces slice p b.turns
+                  (record { kernel_is = refl; steps = subst (λ x. MakesSteps x slice.steps [] None) (sym has_met) (refl, refl) });
+              each = skip_stands frames whole done pieces slice p refl 0 kernels (seats_from frames host present 0 kernels ts) (stops_of ts)
+                  stop refl refl stop_at b.each;
+              text = subst (λ (l : List ℕ). Appends old new l)
+                  (sym (flat_append piece_text pieces (p ∷ []) ∙ append-nil (flat_map piece_text pieces))) b.text;
+              counts = b.counts ∙ same_counts (counts_over (sites_in kernels) before pieces) _ _ (omega arith) refl
+                  ∙ sym (counts_on (sites_in kernels) before pieces p);
               retired = (let was = b.retired in omega (arith, was, length-append done (slice ∷ [])));
             },
           )
@@ -311,7 +370,8 @@ module _ (kernels : List Kernel) (frames : ℕ) (whole done : List Slice) (piece
     -- the sink has failed in the turn
     module _ (here : present ≡ slice.kernel) (dk : Kernel) (d : Tenant) (live : (get_or ts present d).stop ≡ None) (new' : Option (List ℕ))
         (h : HasFailed (get_or kernels present dk) slice.kernel slice.steps host (get_or ts present d) new new')
-        (rounds : (p : Piece) → BeginsTurn kernels frames p (record { tenants = ts; pool = pool; present = present; memory = host }) → HasBegunRound kernels frames done pieces slice p)
+        (rounds : (p : Piece) → BeginsTurn kernels frames p (record { tenants = ts; pool = pool; present = present; memory = host })
+        → HasBegunRound kernels frames done pieces slice p)
       where
         abbrev m_here : Setting
         m_here = alone (get_or kernels present dk) frames
@@ -326,12 +386,17 @@ module _ (kernels : List Kernel) (frames : ℕ) (whole done : List Slice) (piece
             let run = stands_live here dk d live in
             let first = state_of of_roots m_here (get_or ts present d).guest host in
             let on = began_on m_here (reports_of present pieces) h.piece.reports (get_or ts present d).guest.fills first h.last h.sets run.0
-            (subst (λ (f : ℕ). Steps (alone (get_or kernels present dk) f) (state_of of_roots (alone (get_or kernels present dk) f) (get_or ts present d).guest host) h.sets h.piece.reports h.last) fr h.steps_are) in
+            (subst (λ (f : ℕ). Steps (alone (get_or kernels present dk) f)
+            (state_of of_roots (alone (get_or kernels present dk) f) (get_or ts present d).guest host) h.sets h.piece.reports
+            h.last) fr h.steps_are) in
             record {
               sets = on.sets;
               last = on.then_;
-              steps = subst (λ (r : List Report). Steps m_here (boot m_here) on.sets r on.then_) (sym (reports_on present h.piece is_mine pieces)) on.steps;
-              text_is = begun_as m_here (reports_of present pieces) h.piece (pieces ++ h.piece ∷ []) present h.last on.then_ (own_text present pieces) (reports_on present h.piece is_mine pieces) (text_on present h.piece is_mine pieces) run.2 (h.count ∙ on.count)
+              steps = subst (λ (r : List Report). Steps m_here (boot m_here) on.sets r on.then_)
+                  (sym (reports_on present h.piece is_mine pieces)) on.steps;
+              text_is = begun_as m_here (reports_of present pieces) h.piece (pieces ++ h.piece ∷ []) present h.last on.then_
+                  (own_text present pieces) (reports_on present h.piece is_mine pieces) (text_on present h.piece is_mine pieces) run.2
+                  (h.count ∙ on.count)
                   (subst (λ (f : ℕ). IfSome h.piece.stop (StopHolds (alone (get_or kernels present dk) f) h.last)) fr h.stops) on.stops;
             }
 
@@ -346,7 +411,10 @@ module _ (kernels : List Kernel) (frames : ℕ) (whole done : List Slice) (piece
               tenant_is = λ e. get_or_any ts present e d b.rooms.there;
               sets = h.sets;
               last = h.last;
-              steps = subst (λ (f : ℕ). Steps (alone (get_or kernels present dk) f) (state_of of_roots (alone (get_or kernels present dk) f) (get_or ts present d).guest host) h.sets h.piece.reports h.last) fr h.steps_are;
+              steps =
+                  subst (λ (f : ℕ). Steps (alone (get_or kernels present dk) f)
+                  (state_of of_roots (alone (get_or kernels present dk) f) (get_or ts present d).guest host) h.sets h.piece.reports
+                  h.last) fr h.steps_are;
               count = h.count;
               stops = subst (λ (f : ℕ). IfSome h.piece.stop (StopHolds (alone (get_or kernels present dk) f) h.last)) fr h.stops;
             }
@@ -362,9 +430,12 @@ module _ (kernels : List Kernel) (frames : ℕ) (whole done : List Slice) (piece
           turns = b.turns;
           kernel_is = h.number_is;
           few = h.few;
-          each = each_began frames whole done pieces slice h.piece h.number_is 0 kernels (seats_from frames host present 0 kernels ts) (stops_of ts) dk b.each
-              (λ j m is same. subst (λ (x : Kernel). BeganAlone (alone x frames) (reports_of m (pieces ++ h.piece ∷ [])) (own_text m (pieces ++ h.piece ∷ []))) (ap (λ (i : ℕ). get_or kernels i dk) (let z = here in omega (arith, is, same, z)))
-              (subst (λ (x : ℕ). BeganAlone m_here (reports_of x (pieces ++ h.piece ∷ [])) (own_text x (pieces ++ h.piece ∷ []))) (let z = here in omega (arith, same, z)) began_here));
+          each = each_began frames whole done pieces slice h.piece h.number_is 0 kernels (seats_from frames host present 0 kernels ts)
+              (stops_of ts) dk b.each
+              (λ j m is same. subst (λ (x : Kernel). BeganAlone (alone x frames) (reports_of m (pieces ++ h.piece ∷ []))
+              (own_text m (pieces ++ h.piece ∷ []))) (ap (λ (i : ℕ). get_or kernels i dk) (let z = here in omega (arith, is, same, z)))
+              (subst (λ (x : ℕ). BeganAlone m_here (reports_of x (pieces ++ h.piece ∷ [])) (own_text x (pieces ++ h.piece ∷ [])))
+              (let z = here in omega (arith, same, z)) began_here));
           between = new;
           text = b.text;
           front = h.front;

@@ -24,7 +24,8 @@ seat_with k running m live = record { image = k.image; running = running; memory
 module _ (frames : ℕ) (host host' : List ℕ) (present : ℕ) (front : take (4096 * frames) host' ≡ take (4096 * frames) host) where
   -- the memory that stands at the front of the host's as it is then
   laid : (j : ℕ) (t : Tenant) → 4096 * frames ≤ length t.ram
-      → take (4096 * frames) (cond (j == present) host (memory_with frames host t)) ++ drop (4096 * frames) host' ≡ cond (j == present) host' (memory_with frames host' t)
+      → take (4096 * frames) (cond (j == present) host (memory_with frames host t)) ++ drop (4096 * frames) host' ≡ cond (j == present)
+      host' (memory_with frames host' t)
   laid j t room = elim (eqb_tells j present) [
     | inl e ↦
         ap (λ c. take (4096 * frames) (cond c host (memory_with frames host t)) ++ drop (4096 * frames) host') e.0
@@ -36,25 +37,31 @@ module _ (frames : ℕ) (host host' : List ℕ) (present : ℕ) (front : take (4
         ∙ sym (ap (λ c. cond c host' (memory_with frames host' t)) o.0)
   ]
 
-  other : (j : ℕ) (k : Kernel) (t : Tenant) → 4096 * frames ≤ length t.ram → seat_of frames host' present j k t ≡ behind_as frames host' (seat_of frames host present j k t)
+  other : (j : ℕ) (k : Kernel) (t : Tenant) → 4096 * frames ≤ length t.ram → seat_of frames host' present j k t ≡ behind_as frames host'
+      (seat_of frames host present j k t)
   unfolding seat_with
   other j k t room = ap (λ m. seat_with k t.guest m (is_none t.stop)) (sym (laid j t room))
 
-  others : (i : ℕ) (ks : List Kernel) (ts : List Tenant) → All (λ (t : Tenant). 4096 * frames ≤ length t.ram) ts → seats_from frames host' present i ks ts ≡ map (behind_as frames host') (seats_from frames host present i ks ts)
+  others : (i : ℕ) (ks : List Kernel) (ts : List Tenant) → All (λ (t : Tenant). 4096 * frames ≤ length t.ram) ts
+      → seats_from frames host' present i ks ts ≡ map (behind_as frames host') (seats_from frames host present i ks ts)
   others i [] ts theirs = refl
   others i (k ∷ ks) [] theirs = refl
   others i (k ∷ ks) (t ∷ ts) theirs =
       ap (λ s. s ∷ seats_from frames host' present (suc i) ks ts) (other i k t (theirs 0 t (omega arith)))
-      ∙ ap (λ l. behind_as frames host' (seat_of frames host present i k t) ∷ l) (others (suc i) ks ts (λ j e l. theirs (suc j) e (omega (arith, l))))
+      ∙ ap (λ l. behind_as frames host' (seat_of frames host present i k t) ∷ l)
+      (others (suc i) ks ts (λ j e l. theirs (suc j) e (omega (arith, l))))
 
   -- the one whose shadows were dropped
-  gone : (j : ℕ) (k : Kernel) (t t' : Tenant) → 4096 * frames ≤ length t.ram → t'.guest ≡ record t.guest { shadows = t'.guest.shadows; held = 2 } → t'.ram ≡ t.ram → t'.stop ≡ t.stop
+  gone : (j : ℕ) (k : Kernel) (t t' : Tenant) → 4096 * frames ≤ length t.ram
+      → t'.guest ≡ record t.guest { shadows = t'.guest.shadows; held = 2 } → t'.ram ≡ t.ram → t'.stop ≡ t.stop
       → seat_of frames host' present j k t' ≡ released frames host' (seat_of frames host present j k t) t'.guest.shadows
   unfolding seat_with
   gone j k t t' room running ram stop =
       ap (λ (r : Running Roots). seat_with k r (cond (j == present) host' (memory_with frames host' t')) (is_none t'.stop)) running
-      ∙ ap (λ (l : List ℕ). seat_with k (record t.guest { shadows = t'.guest.shadows; held = 2 }) (cond (j == present) host' (take (4096 * frames) l ++ drop (4096 * frames) host')) (is_none t'.stop)) ram
-      ∙ ap (λ (s : Option Stop). seat_with k (record t.guest { shadows = t'.guest.shadows; held = 2 }) (cond (j == present) host' (memory_with frames host' t)) (is_none s)) stop
+      ∙ ap (λ (l : List ℕ). seat_with k (record t.guest { shadows = t'.guest.shadows; held = 2 })
+      (cond (j == present) host' (take (4096 * frames) l ++ drop (4096 * frames) host')) (is_none t'.stop)) ram
+      ∙ ap (λ (s : Option Stop). seat_with k (record t.guest { shadows = t'.guest.shadows; held = 2 })
+      (cond (j == present) host' (memory_with frames host' t)) (is_none s)) stop
       ∙ ap (λ (m : List ℕ). seat_with k (record t.guest { shadows = t'.guest.shadows; held = 2 }) m (is_none t.stop)) (sym (laid j t room))
 
   record Split (old new : Tenant) (seats seats' : List Seat) : Type 0 where
@@ -65,8 +72,10 @@ module _ (frames : ℕ) (host host' : List ℕ) (present : ℕ) (front : take (4
     pub is' : seats' ≡ map (behind_as frames host') before ++ released frames host' s new.guest.shadows ∷ map (behind_as frames host') after
     pub same : s.running ≡ old.guest
 
-  split : (p p' : Pool) (i n : ℕ) (ks : List Kernel) (ts : List Tenant) (d t' : Tenant) → n < length ts → n < length ks → All (λ (t : Tenant). 4096 * frames ≤ length t.ram) ts
-      → HasReleased p p' host host' (get_or ts n d) t' → Split (get_or ts n d) t' (seats_from frames host present i ks ts) (seats_from frames host' present i ks (set ts n t'))
+  split : (p p' : Pool) (i n : ℕ) (ks : List Kernel) (ts : List Tenant) (d t' : Tenant) → n < length ts → n < length ks
+      → All (λ (t : Tenant). 4096 * frames ≤ length t.ram) ts
+      → HasReleased p p' host host' (get_or ts n d) t' → Split (get_or ts n d) t' (seats_from frames host present i ks ts)
+      (seats_from frames host' present i ks (set ts n t'))
   split p p' i n [] ts d t' lt lk theirs h = absurd (omega (arith, lk))
   split p p' i n (k ∷ ks) [] d t' lt lk theirs h = absurd (omega (arith, lt))
   split p p' i zero (k ∷ ks) (t ∷ ts) d t' lt lk theirs h =
@@ -77,7 +86,8 @@ module _ (frames : ℕ) (host host' : List ℕ) (present : ℕ) (front : take (4
         is = refl;
         is' =
             ap (λ s. s ∷ seats_from frames host' present (suc i) ks ts) (gone i k t t' (theirs 0 t (omega arith)) h.running h.ram h.stop)
-            ∙ ap (λ l. released frames host' (seat_of frames host present i k t) t'.guest.shadows ∷ l) (others (suc i) ks ts (λ j e l. theirs (suc j) e (omega (arith, l))));
+            ∙ ap (λ l. released frames host' (seat_of frames host present i k t) t'.guest.shadows ∷ l)
+            (others (suc i) ks ts (λ j e l. theirs (suc j) e (omega (arith, l))));
         same = refl;
       }
   split p p' i (suc n) (k ∷ ks) (t ∷ ts) d t' lt lk theirs h =
@@ -94,26 +104,37 @@ module _ (frames : ℕ) (host host' : List ℕ) (present : ℕ) (front : take (4
       }
 
 -- the kernels stay apart
-pub gone_apart : (frames : ℕ) (p p' : Pool) (host host' : List ℕ) (present n : ℕ) (ks : List Kernel) (ts : List Tenant) (d t' : Tenant) → n < length ts → length ks ≡ length ts
-    → All (λ (t : Tenant). 4096 * frames ≤ length t.ram) ts → Owns p host (roots.frames (get_or ts n d).guest.shadows host) → HasReleased p p' host host' (get_or ts n d) t'
-    → AreApart frames p host (seats_from frames host present 0 ks ts) → AreApart frames p' host' (seats_from frames host' present 0 ks (set ts n t'))
+pub gone_apart : (frames : ℕ) (p p' : Pool) (host host' : List ℕ) (present n : ℕ) (ks : List Kernel) (ts : List Tenant) (d t' : Tenant)
+    → n < length ts → length ks ≡ length ts
+    → All (λ (t : Tenant). 4096 * frames ≤ length t.ram) ts → Owns p host (roots.frames (get_or ts n d).guest.shadows host)
+    → HasReleased p p' host host' (get_or ts n d) t'
+    → AreApart frames p host (seats_from frames host present 0 ks ts)
+    → AreApart frames p' host' (seats_from frames host' present 0 ks (set ts n t'))
 gone_apart frames p p' host host' present n ks ts d t' lt len theirs owns h apart =
     let old = (get_or ts n d).guest in
-    let front = front_same frames p p' host host' (roots.frames old.shadows host) (roots.frames t'.guest.shadows host') apart.behind owns h.dropped.moves in
+    let front = front_same frames p p' host host' (roots.frames old.shadows host) (roots.frames t'.guest.shadows host') apart.behind
+    owns h.dropped.moves in
     let w = split frames host host' present front p p' 0 n ks ts d t' lt (omega (arith, lt, len)) theirs h in
     subst (λ (l : List Seat). AreApart frames p' host' l) (sym w.is')
-    (one_releases frames p p' host host' w.before w.after w.s t'.guest.shadows (subst (λ (l : List Seat). AreApart frames p host l) w.is apart)
+    (one_releases frames p p' host host' w.before w.after w.s t'.guest.shadows
+    (subst (λ (l : List Seat). AreApart frames p host l) w.is apart)
     (subst (λ (r : Running Roots). AllDropped p p' host host' r.shadows t'.guest.shadows r.fills) (sym w.same) h.dropped))
 
 -- and each is as it was, but for its translations
-pub gone_stays : (frames : ℕ) (p p' : Pool) (host host' : List ℕ) (present n : ℕ) (ks : List Kernel) (ts : List Tenant) (d t' : Tenant) → n < length ts → length ks ≡ length ts
-    → All (λ (t : Tenant). 4096 * frames ≤ length t.ram) ts → Owns p host (roots.frames (get_or ts n d).guest.shadows host) → HasReleased p p' host host' (get_or ts n d) t'
-    → AreApart frames p host (seats_from frames host present 0 ks ts) → EachStays frames (seats_from frames host present 0 ks ts) (seats_from frames host' present 0 ks (set ts n t'))
+pub gone_stays : (frames : ℕ) (p p' : Pool) (host host' : List ℕ) (present n : ℕ) (ks : List Kernel) (ts : List Tenant) (d t' : Tenant)
+    → n < length ts → length ks ≡ length ts
+    → All (λ (t : Tenant). 4096 * frames ≤ length t.ram) ts → Owns p host (roots.frames (get_or ts n d).guest.shadows host)
+    → HasReleased p p' host host' (get_or ts n d) t'
+    → AreApart frames p host (seats_from frames host present 0 ks ts) → EachStays frames (seats_from frames host present 0 ks ts)
+    (seats_from frames host' present 0 ks (set ts n t'))
 gone_stays frames p p' host host' present n ks ts d t' lt len theirs owns h apart =
     let old = (get_or ts n d).guest in
-    let front = front_same frames p p' host host' (roots.frames old.shadows host) (roots.frames t'.guest.shadows host') apart.behind owns h.dropped.moves in
+    let front = front_same frames p p' host host' (roots.frames old.shadows host) (roots.frames t'.guest.shadows host') apart.behind
+    owns h.dropped.moves in
     let w = split frames host host' present front p p' 0 n ks ts d t' lt (omega (arith, lt, len)) theirs h in
     subst (λ (l : List Seat). EachStays frames (seats_from frames host present 0 ks ts) l) (sym w.is')
-    (subst (λ (l : List Seat). EachStays frames l (map (behind_as frames host') w.before ++ released frames host' w.s t'.guest.shadows ∷ map (behind_as frames host') w.after)) (sym w.is)
-    (release_same frames p p' host host' w.before w.after w.s t'.guest.shadows (subst (λ (l : List Seat). AreApart frames p host l) w.is apart)
+    (subst (λ (l : List Seat). EachStays frames l (map (behind_as frames host') w.before ++ released frames host' w.s t'.guest.shadows ∷ map
+    (behind_as frames host') w.after)) (sym w.is)
+    (release_same frames p p' host host' w.before w.after w.s t'.guest.shadows
+    (subst (λ (l : List Seat). AreApart frames p host l) w.is apart)
     (subst (λ (r : Running Roots). AllDropped p p' host host' r.shadows t'.guest.shadows r.fills) (sym w.same) h.dropped)))

@@ -19,7 +19,8 @@ end_cons b xs other rest = rw (ne_eqb b 10 other) rest
 pub end_append : (xs ys : List ℕ) → has_end xs ≡ false → has_end ys ≡ false → has_end (xs ++ ys) ≡ false
 end_append [] ys front rest = rest
 end_append (b ∷ xs) ys front rest = either (b == 10) xs ys front (λ h. end_append xs ys h rest) where
-  either : (here : Bool) (xs ys : List ℕ) → (if here then true else has_end xs) ≡ false → (has_end xs ≡ false → has_end (xs ++ ys) ≡ false) → (if here then true else has_end (xs ++ ys)) ≡ false
+  either : (here : Bool) (xs ys : List ℕ) → (if here then true else has_end xs) ≡ false → (has_end xs ≡ false → has_end (xs ++ ys) ≡ false)
+      → (if here then true else has_end (xs ++ ys)) ≡ false
   either true xs ys front rest = front
   either false xs ys front rest = rest front
 
@@ -31,10 +32,13 @@ glyph d = by_test (nat_lt d 10) where
 
 digits_onto_end : (k n : ℕ) (acc : List ℕ) → has_end acc ≡ false → has_end (digits_onto k 10 false n acc) ≡ false
 digits_onto_end zero n acc rest = rest
-digits_onto_end (suc k) n acc rest = by_test (n / 10 == 0) (digit_glyph false (n % 10) ∷ acc) (end_cons (digit_glyph false (n % 10)) acc (glyph (n % 10)) rest) (digits_onto_end k (n / 10)) where
-  by_test : (t : Bool) (next : List ℕ) → has_end next ≡ false → ((acc : List ℕ) → has_end acc ≡ false → has_end (digits_onto k 10 false (n / 10) acc) ≡ false) → has_end (if t then next else digits_onto k 10 false (n / 10) next) ≡ false
-  by_test true next good on = good
-  by_test false next good on = on next good
+digits_onto_end (suc k) n acc rest = by_test (n / 10 == 0) (digit_glyph false (n % 10) ∷ acc)
+    (end_cons (digit_glyph false (n % 10)) acc (glyph (n % 10)) rest) (digits_onto_end k (n / 10)) where
+      by_test : (t : Bool) (next : List ℕ) → has_end next ≡ false
+          → ((acc : List ℕ) → has_end acc ≡ false → has_end (digits_onto k 10 false (n / 10) acc) ≡ false)
+          → has_end (if t then next else digits_onto k 10 false (n / 10) next) ≡ false
+      by_test true next good on = good
+      by_test false next good on = on next good
 
 decimal_end : (n : ℕ) → has_end (decimal n) ≡ false
 unfolding digits
@@ -47,7 +51,8 @@ hex_digit_end n = by_test (nat_lt n 10) where
   by_test false e = omega arith
 
 hex2_end : (v : ℕ) → has_end (hex2 v) ≡ false
-hex2_end v = end_cons (hex_digit (v / 16)) (hex_digit (v % 16) ∷ []) (hex_digit_end (v / 16)) (end_cons (hex_digit (v % 16)) [] (hex_digit_end (v % 16)) refl)
+hex2_end v = end_cons (hex_digit (v / 16)) (hex_digit (v % 16) ∷ []) (hex_digit_end (v / 16))
+    (end_cons (hex_digit (v % 16)) [] (hex_digit_end (v % 16)) refl)
 
 hex4_end : (v : ℕ) → has_end (hex4 v) ≡ false
 hex4_end v = end_append (hex2 (v / 256)) (hex2 (v % 256)) (hex2_end (v / 256)) (hex2_end (v % 256))
@@ -55,8 +60,10 @@ hex4_end v = end_append (hex2 (v / 256)) (hex2 (v % 256)) (hex2_end (v / 256)) (
 hex8_end : (v : ℕ) → has_end (hex8 v) ≡ false
 hex8_end v = end_append (hex4 (v / 65536)) (hex4 (v % 65536)) (hex4_end (v / 65536)) (hex4_end (v % 65536))
 
-port_end : (name port value : List ℕ) → has_end name ≡ false → has_end port ≡ false → has_end value ≡ false → has_end (name ++ port ++ codes " " ++ value) ≡ false
-port_end name port value a b c = end_append (name ++ port ++ codes " ") value (end_append (name ++ port) (codes " ") (end_append name port a b) refl) c
+port_end : (name port value : List ℕ) → has_end name ≡ false → has_end port ≡ false → has_end value ≡ false
+    → has_end (name ++ port ++ codes " " ++ value) ≡ false
+port_end name port value a b c =
+    end_append (name ++ port ++ codes " ") value (end_append (name ++ port) (codes " ") (end_append name port a b) refl) c
 
 what_end : (what : What) → has_end (what_text what) ≡ false
 unfolding what_text
@@ -103,5 +110,6 @@ unfolding end_line
 end_line_is steps end = record {
   front = codes "end steps " ++ decimal steps ++ end_text end;
   whole = refl;
-  inside = end_append (codes "end steps " ++ decimal steps) (end_text end) (end_append (codes "end steps ") (decimal steps) refl (decimal_end steps)) (last_end end);
+  inside = end_append (codes "end steps " ++ decimal steps) (end_text end)
+      (end_append (codes "end steps ") (decimal steps) refl (decimal_end steps)) (last_end end);
 }

@@ -11,7 +11,8 @@ both (Some old) (Some mid) new xs ys first second =
     second ∙ ap (λ (z : List ℕ). Some z) (ap (λ (z : List ℕ). z ++ ys) same ∙ append_assoc old xs ys)
 
 -- the second put fails
-pub then_front : (old mid new : Option (List ℕ)) (xs ys : List ℕ) → Appends old mid xs → AppendsFront mid new ys → AppendsFront old new (xs ++ ys)
+pub then_front : (old mid new : Option (List ℕ)) (xs ys : List ℕ) → Appends old mid xs → AppendsFront mid new ys
+    → AppendsFront old new (xs ++ ys)
 then_front old mid new xs ys first second = record {
   front = xs ++ second.front;
   rest = second.rest;

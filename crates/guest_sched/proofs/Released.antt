@@ -36,13 +36,15 @@ none_same olds [] same none = refl
 none_same [] (n ∷ news) same none = absurd same
 none_same (o ∷ olds) (n ∷ news) same none = absurd (cc)
 
-pub join_stays : (frames : ℕ) (xs ys us vs : List Seat) → EachStays frames xs ys → EachStays frames us vs → EachStays frames (xs ++ us) (ys ++ vs)
+pub join_stays : (frames : ℕ) (xs ys us vs : List Seat) → EachStays frames xs ys → EachStays frames us vs
+    → EachStays frames (xs ++ us) (ys ++ vs)
 join_stays frames [] [] us vs a b = b
 join_stays frames [] (y ∷ ys) us vs a b = absurd a
 join_stays frames (x ∷ xs) [] us vs a b = absurd a
 join_stays frames (x ∷ xs) (y ∷ ys) us vs a b = (a.0, join_stays frames xs ys us vs a.1 b)
 
-module _ (frames : ℕ) (p p' : Pool) (host host' : List ℕ) (s : Seat) (new : Roots) (d : AllDropped p p' host host' s.running.shadows new s.running.fills) (h : IsSeated frames p s)
+module _ (frames : ℕ) (p p' : Pool) (host host' : List ℕ) (s : Seat) (new : Roots)
+    (d : AllDropped p p' host host' s.running.shadows new s.running.fills) (h : IsSeated frames p s)
     (len : length s.memory ≡ length host) (goes : drop (4096 * frames) s.memory ≡ drop (4096 * frames) host) (behind : frames ≤ base_of p)
     (few : length (free_list p host) + length (held_by s) < 2 ^ 32)
   where
@@ -74,7 +76,10 @@ module _ (frames : ℕ) (p p' : Pool) (host host' : List ℕ) (s : Seat) (new : 
     low = omega (arith, behind, base)
 
     still : SameIn (roots.frames new host') host' then_memory
-    still = record { size = size'; frames = λ f k. frame-above host' then_memory (4096 * frames) f (let o = (d.owns.out f k).low in omega (arith, o, low)) goes' }
+    still = record {
+      size = size';
+      frames = λ f k. frame-above host' then_memory (4096 * frames) f (let o = (d.owns.out f k).low in omega (arith, o, low)) goes';
+    }
 
     frames_same : roots.frames new then_memory ≡ roots.frames new host'
     frames_same = standing.frames_in new host' then_memory d.stands still
@@ -98,20 +103,32 @@ module _ (frames : ℕ) (p p' : Pool) (host host' : List ℕ) (s : Seat) (new : 
     stand = standing.stays_in new host' then_memory d.stands still
 
     owns : Owns p' then_memory (roots.frames new then_memory)
-    owns = subst (λ (fs : List ℕ). Owns p' then_memory fs) (sym frames_same) (Owns-above p' host' then_memory (4096 * frames) low goes' size' (roots.frames new host') d.owns)
+    owns = subst (λ (fs : List ℕ). Owns p' then_memory fs) (sym frames_same)
+        (Owns-above p' host' then_memory (4096 * frames) low goes' size' (roots.frames new host') d.owns)
 
     -- what it held over its own memory it held over the host's
     held_there : roots.frames s.running.shadows host ≡ held_by s
     held_there =
         standing.frames_in s.running.shadows s.memory host h.holds.stand
-        (record { size = sym len; frames = λ f k. frame-above s.memory host (4096 * frames) f (let o = (h.holds.owns.out f k).low in omega (arith, o, behind)) (sym goes) })
+        (record {
+          size = sym len;
+          frames = λ f k. frame-above s.memory host (4096 * frames) f (let o = (h.holds.owns.out f k).low in
+              omega (arith, o, behind)) (sym goes);
+        })
 
     pub released_keeps : Keeps p p' host host' (held_by s) (held_by (released frames host' s new))
     unfolding then_memory
     released_keeps =
         subst (λ (fs : List ℕ). Keeps p p' host host' fs (roots.frames new then_memory)) held_there
         (subst (λ (fs : List ℕ). Keeps p p' host host' (roots.frames s.running.shadows host) fs) (sym frames_same)
-        (record { same = d.moves.same; size = d.moves.size; together = d.moves.together; lengths = d.moves.lengths; others = λ f b a k. d.moves.others f a k; out = d.moves.out }))
+        (record {
+          same = d.moves.same;
+          size = d.moves.size;
+          together = d.moves.together;
+          lengths = d.moves.lengths;
+          others = λ f b a k. d.moves.others f a k;
+          out = d.moves.out;
+        }))
 
     released_holds : HoldsFrames frames p' (released frames host' s new)
     unfolding then_memory
@@ -148,7 +165,9 @@ module _ (frames : ℕ) (p p' : Pool) (host host' : List ℕ) (s : Seat) (new : 
             counted = sym (ap length frames_same ∙ d.two);
             few = omega (arith, few, lengths, there, same, free);
             fills = g.held.fills;
-            within = λ page x is. absurd (none_some x (sym (get-empty nat_cmp page) ∙ (ap (λ (set : Set). get set page) (sym (set_same ∙ d.entries)) ∙ is)));
+            within =
+                λ page x is. absurd (none_some x
+                (sym (get-empty nat_cmp page) ∙ (ap (λ (set : Set). get set page) (sym (set_same ∙ d.entries)) ∙ is)));
             open_to = none_open s.image (wp_of s.running.cpu) _ no_slots;
           };
           ready = record {
@@ -165,11 +184,16 @@ module _ (frames : ℕ) (p p' : Pool) (host host' : List ℕ) (s : Seat) (new : 
     released_same = record {
       step = refl;
       fills = refl;
-      state = λ m is. inr (state_by m (shown_same m s.memory then_memory (subst (λ (n : ℕ). take (4096 * n) then_memory ≡ take (4096 * n) s.memory) (sym is) front)) (set_same ∙ d.entries));
+      state =
+          λ m is. inr (state_by m
+          (shown_same m s.memory then_memory (subst (λ (n : ℕ). take (4096 * n) then_memory ≡ take (4096 * n) s.memory) (sym is) front))
+          (set_same ∙ d.entries));
     }
       where
-        state_by : (m : Setting) {ram ram' : List ℕ} {set' : Set} → ram' ≡ ram → set' ≡ empty → state_with s.running ram' set' ≡ state_with s.running ram empty
-        state_by m {ram} {ram'} {set'} a b = ap (λ (l : List ℕ). state_with s.running l set') a ∙ ap (λ (x : Set). state_with s.running ram x) b
+        state_by : (m : Setting) {ram ram' : List ℕ} {set' : Set} → ram' ≡ ram → set' ≡ empty
+            → state_with s.running ram' set' ≡ state_with s.running ram empty
+        state_by m {ram} {ram'} {set'} a b =
+            ap (λ (l : List ℕ). state_with s.running l set') a ∙ ap (λ (x : Set). state_with s.running ram x) b
 
     pub released_length : length (released frames host' s new).memory ≡ length host'
     unfolding then_memory
@@ -184,21 +208,28 @@ module _ (frames : ℕ) (p p' : Pool) (host host' : List ℕ) (s : Seat) (new : 
     released_seated = record { holds = released_holds; goes_on = λ live. released_goes (h.goes_on live) }
 
 -- all kernels are as they were, but for its translations
-pub release_same : (frames : ℕ) (p p' : Pool) (host host' : List ℕ) (before after : List Seat) (s : Seat) (new : Roots) → AreApart frames p host (before ++ s ∷ after)
-    → AllDropped p p' host host' s.running.shadows new s.running.fills → EachStays frames (before ++ s ∷ after) (map (behind_as frames host') before ++ released frames host' s new ∷ map (behind_as frames host') after)
+pub release_same : (frames : ℕ) (p p' : Pool) (host host' : List ℕ) (before after : List Seat) (s : Seat) (new : Roots)
+    → AreApart frames p host (before ++ s ∷ after)
+    → AllDropped p p' host host' s.running.shadows new s.running.fills
+    → EachStays frames (before ++ s ∷ after)
+    (map (behind_as frames host') before ++ released frames host' s new ∷ map (behind_as frames host') after)
 release_same frames p p' host host' before after s new h d =
     let here = seated_right frames p host before (s ∷ after) h.seated in
     let sums = all_append before (s ∷ after) in
     let all = h.all in
     let small = h.few in
     let few : length (free_list p host) + length (held_by s) < 2 ^ 32 = omega (arith, sums, all, small) in
-    let o = others_same frames p p' host host' before after s (released frames host' s new) h (released_keeps frames p p' host host' s new d here.0 here.1 here.2 h.behind few) d.owns.stands in
-    join_stays frames before (map (behind_as frames host') before) (s ∷ after) (released frames host' s new ∷ map (behind_as frames host') after) o.0
+    let o = others_same frames p p' host host' before after s (released frames host' s new) h
+    (released_keeps frames p p' host host' s new d here.0 here.1 here.2 h.behind few) d.owns.stands in
+    join_stays frames before (map (behind_as frames host') before) (s ∷ after)
+    (released frames host' s new ∷ map (behind_as frames host') after) o.0
     (released_same frames p p' host host' s new d here.0 here.1 here.2 h.behind few, o.1)
 
 -- the others stay as they are
-pub one_releases : (frames : ℕ) (p p' : Pool) (host host' : List ℕ) (before after : List Seat) (s : Seat) (new : Roots) → AreApart frames p host (before ++ s ∷ after)
-    → AllDropped p p' host host' s.running.shadows new s.running.fills → AreApart frames p' host' (map (behind_as frames host') before ++ released frames host' s new ∷ map (behind_as frames host') after)
+pub one_releases : (frames : ℕ) (p p' : Pool) (host host' : List ℕ) (before after : List Seat) (s : Seat) (new : Roots)
+    → AreApart frames p host (before ++ s ∷ after)
+    → AllDropped p p' host host' s.running.shadows new s.running.fills
+    → AreApart frames p' host' (map (behind_as frames host') before ++ released frames host' s new ∷ map (behind_as frames host') after)
 one_releases frames p p' host host' before after s new h d =
     let here = seated_right frames p host before (s ∷ after) h.seated in
     let sums = all_append before (s ∷ after) in

@@ -29,24 +29,45 @@ pub record IsAt (frames : ℕ) (p : Pool) (host : List ℕ) (t : Tenant) (all : 
   pub running : s.running ≡ t.guest
   pub held : t.guest.held ≤ all
 
-pub is_at : (frames : ℕ) (p : Pool) (host : List ℕ) (present i n : ℕ) (ks : List Kernel) (ts : List Tenant) (d : Tenant) → n < length ts → length ks ≡ length ts
-    → AreSeated frames p host (seats_from frames host present i ks ts) → IsAt frames p host (get_or ts n d) (all_held (seats_from frames host present i ks ts))
+pub is_at : (frames : ℕ) (p : Pool) (host : List ℕ) (present i n : ℕ) (ks : List Kernel) (ts : List Tenant) (d : Tenant) → n < length ts
+    → length ks ≡ length ts
+    → AreSeated frames p host (seats_from frames host present i ks ts)
+    → IsAt frames p host (get_or ts n d) (all_held (seats_from frames host present i ks ts))
 is_at frames p host present i n [] ts d lt len h = absurd (omega (arith, lt, len))
 is_at frames p host present i n (k ∷ ks) [] d lt len h = absurd (omega (arith, lt))
 is_at frames p host present i zero (k ∷ ks) (t ∷ ts) d lt len h =
-    record { s = seat_of frames host present i k t; seated = h.0; size = h.1; behind = h.2; running = refl; held = (let c = h.0.holds.counted in omega (arith, c)) }
+    record {
+      s = seat_of frames host present i k t;
+      seated = h.0;
+      size = h.1;
+      behind = h.2;
+      running = refl;
+      held = (let c = h.0.holds.counted in omega (arith, c));
+    }
 is_at frames p host present i (suc n) (k ∷ ks) (t ∷ ts) d lt len h =
     let r = is_at frames p host present (suc i) n ks ts d (omega (arith, lt)) (omega (arith, len)) h.3 in
-    record { s = r.s; seated = r.seated; size = r.size; behind = r.behind; running = r.running; held = (let c = r.held in omega (arith, c)) }
+    record {
+      s = r.s;
+      seated = r.seated;
+      size = r.size;
+      behind = r.behind;
+      running = r.running;
+      held = (let c = r.held in omega (arith, c));
+    }
 
 -- each that isn't the present one holds two at most from the n-th on
-pub held_bound : (frames : ℕ) (p : Pool) (host : List ℕ) (present i : ℕ) (ks : List Kernel) (ts : List Tenant) (d : Tenant) (top : ℕ) → length ks ≡ length ts → AreSeated frames p host (seats_from frames host present i ks ts)
-    → ((j m : ℕ) → m ≡ i + j → j < length ts → m ≢ present → (get_or ts j d).guest.held ≤ 2) → ((j m : ℕ) → m ≡ i + j → j < length ts → m ≡ present → (get_or ts j d).guest.held ≤ top)
-    → (all_held (seats_from frames host present i ks ts) ≤ 2 * length ts + top) × (present < i → all_held (seats_from frames host present i ks ts) ≤ 2 * length ts)
+pub held_bound : (frames : ℕ) (p : Pool) (host : List ℕ) (present i : ℕ) (ks : List Kernel) (ts : List Tenant) (d : Tenant) (top : ℕ)
+    → length ks ≡ length ts → AreSeated frames p host (seats_from frames host present i ks ts)
+    → ((j m : ℕ) → m ≡ i + j → j < length ts → m ≢ present → (get_or ts j d).guest.held ≤ 2)
+    → ((j m : ℕ) → m ≡ i + j → j < length ts → m ≡ present → (get_or ts j d).guest.held ≤ top)
+    → (all_held (seats_from frames host present i ks ts) ≤ 2 * length ts + top)
+    × (present < i → all_held (seats_from frames host present i ks ts) ≤ 2 * length ts)
 held_bound frames p host present i [] ts d top len h two one = (omega arith, λ lt. omega arith)
 held_bound frames p host present i (k ∷ ks) [] d top len h two one = (omega arith, λ lt. omega arith)
 held_bound frames p host present i (k ∷ ks) (t ∷ ts) d top len h two one =
-    let r = held_bound frames p host present (suc i) ks ts d top (omega (arith, len)) h.3 (λ j m e l n. two (suc j) m (omega (arith, e)) (omega (arith, l)) n) (λ j m e l n. one (suc j) m (omega (arith, e)) (omega (arith, l)) n) in
+    let r = held_bound frames p host present (suc i) ks ts d top (omega (arith, len)) h.3
+    (λ j m e l n. two (suc j) m (omega (arith, e)) (omega (arith, l)) n)
+    (λ j m e l n. one (suc j) m (omega (arith, e)) (omega (arith, l)) n) in
     let c = h.0.holds.counted in
     let all = r.0 in
     elim (eqb_tells i present) [
@@ -67,15 +88,21 @@ over_host frames p host t all behind a =
     let h = a.seated.holds in
     let low : 4096 * frames ≤ 4096 * base_of p = omega (arith, behind) in
     let same : SameIn (held_by a.s) a.s.memory host =
-    record { size = sym a.size; frames = λ f k. frame-above a.s.memory host (4096 * frames) f (let o = (h.owns.out f k).low in omega (arith, o, behind)) (sym a.behind) } in
+    record {
+      size = sym a.size;
+      frames =
+          λ f k. frame-above a.s.memory host (4096 * frames) f (let o = (h.owns.out f k).low in omega (arith, o, behind)) (sym a.behind);
+    } in
     let frames_same = standing.frames_in a.s.running.shadows a.s.memory host h.stand same in
     subst (λ (r : _). ∥ roots.stands r.shadows host ∥₁ × Owns p host (roots.frames r.shadows host)) a.running (
       standing.stays_in a.s.running.shadows a.s.memory host h.stand same,
-      subst (λ (fs : List ℕ). Owns p host fs) (sym frames_same) (Owns-above p a.s.memory host (4096 * frames) low (sym a.behind) (sym a.size) (held_by a.s) h.owns),
+      subst (λ (fs : List ℕ). Owns p host fs) (sym frames_same)
+          (Owns-above p a.s.memory host (4096 * frames) low (sym a.behind) (sym a.size) (held_by a.s) h.owns),
     )
 
 pub no_room_made : (present : ℕ) (ts : List Tenant) → HasMadeRoom present ts ts
-no_room_made present ts = record { len = refl; stops = refl; each = λ j d. record { running = refl; ram = refl; stop = refl }; here = λ d. refl }
+no_room_made present ts =
+    record { len = refl; stops = refl; each = λ j d. record { running = refl; ram = refl; stop = refl }; here = λ d. refl }
 
 -- each is as it was where it was so twice
 pub stays_none : (frames : ℕ) (xs : List Seat) → EachStays frames xs xs
@@ -94,11 +121,14 @@ stays_then frames [] [] (z ∷ zs) a b = absurd b
 stays_then frames [] (y ∷ ys) zs a b = absurd a
 stays_then frames (x ∷ xs) [] zs a b = absurd a
 stays_then frames (x ∷ xs) (y ∷ ys) [] a b = absurd b
-stays_then frames (x ∷ xs) (y ∷ ys) (z ∷ zs) a b =
-    (record { step = b.0.step ∙ a.0.step; fills = b.0.fills ∙ a.0.fills; state = λ m is. forgets _ _ _ (a.0.state m is) (b.0.state m is) }, stays_then frames xs ys zs a.1 b.1)
+stays_then frames (x ∷ xs) (y ∷ ys) (z ∷ zs) a b = (
+  record { step = b.0.step ∙ a.0.step; fills = b.0.fills ∙ a.0.fills; state = λ m is. forgets _ _ _ (a.0.state m is) (b.0.state m is) },
+  stays_then frames xs ys zs a.1 b.1,
+)
 
 -- a kernel more has given up its frames
-module _ (p p' : Pool) (host host' : List ℕ) (present n : ℕ) (ts now then_ : List Tenant) (d t' : Tenant) (lt : n < length now) (is : then_ ≡ set now n t') (h : HasReleased p p' host host' (get_or now n d) t') where
+module _ (p p' : Pool) (host host' : List ℕ) (present n : ℕ) (ts now then_ : List Tenant) (d t' : Tenant) (lt : n < length now)
+    (is : then_ ≡ set now n t') (h : HasReleased p p' host host' (get_or now n d) t') where
   pub then_here : (j : ℕ) → j ≡ n → get_or then_ j d ≡ t'
   then_here j e = ap (λ i. get_or then_ i d) e ∙ ap (λ l. get_or l n d) is ∙ get_or-set_same now n t' d lt
 
@@ -119,12 +149,15 @@ module _ (p p' : Pool) (host host' : List ℕ) (present n : ℕ) (ts now then_ :
 
   pub then_each : HasMadeRoom present ts now → (j : ℕ) → MayGiveUp (get_or ts j d) (get_or then_ j d)
   then_each m j = elim (eqb_tells j n) [
-    | inl e ↦ subst (λ (t : Tenant). MayGiveUp (get_or ts j d) t) (sym (then_here j e.1)) (gives_up (get_or ts j d) (subst (λ i. MayGiveUp (get_or ts j d) (get_or now i d)) e.1 (m.each j d)))
+    | inl e ↦ subst (λ (t : Tenant). MayGiveUp (get_or ts j d) t) (sym (then_here j e.1))
+        (gives_up (get_or ts j d) (subst (λ i. MayGiveUp (get_or ts j d) (get_or now i d)) e.1 (m.each j d)))
     | inr o ↦ subst (λ (t : Tenant). MayGiveUp (get_or ts j d) t) (sym (then_other j o.1)) (m.each j d)
   ]
 
   pub then_held : (j : ℕ) → (j < n → (get_or now j d).guest.held ≤ 2) → j < n + 1 → (get_or then_ j d).guest.held ≤ 2
   then_held j done lt1 = elim (eqb_tells j n) [
-    | inl e ↦ (let a = ap (λ (t : Tenant). t.guest.held) (then_here j e.1) in let b = ap (λ (r : Running Roots). r.held) h.running in omega (arith, a, b))
-    | inr o ↦ (let a = ap (λ (t : Tenant). t.guest.held) (then_other j o.1) in let ne = o.1 in let b = done (omega (arith, lt1, ne)) in omega (arith, a, b))
+    | inl e ↦ (let a = ap (λ (t : Tenant). t.guest.held) (then_here j e.1) in let b = ap (λ (r : Running Roots). r.held) h.running in
+        omega (arith, a, b))
+    | inr o ↦ (let a = ap (λ (t : Tenant). t.guest.held) (then_other j o.1) in let ne = o.1 in let b = done (omega (arith, lt1, ne)) in
+        omega (arith, a, b))
   ]

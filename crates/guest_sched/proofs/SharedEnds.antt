@@ -15,7 +15,8 @@ pub on_ok : {P : Type 0} (r : Result (Unit {0}) Failed) → is_err r ≡ false �
 on_ok (Ok done) e h = h
 on_ok (Err failed) e h = absurd (cc)
 
-pub is_next : (count : ℕ) (whole list : List Slice) (i : ℕ) (d : Slice) → list ≡ whole → i < length list → IsSchedule count whole → IsNext count whole (take i whole) (get_or list i d)
+pub is_next : (count : ℕ) (whole list : List Slice) (i : ℕ) (d : Slice) → list ≡ whole → i < length list → IsSchedule count whole
+    → IsNext count whole (take i whole) (get_or list i d)
 is_next count whole list i d same lt h =
     let within : i < length whole = (let n = ap length same in omega (arith, n, lt)) in
     record {

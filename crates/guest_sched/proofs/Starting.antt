@@ -39,29 +39,42 @@ no_steps m fills state is none = record {
   steps = (refl, refl);
   stands = is;
   allowed = empty_allowed m (boot m);
-  enough = All-cons (λ (set : Set). len set ≤ fills) empty [] (let n = len-empty nat_cmp Entry in omega (arith, n)) (All-nil (λ (set : Set). len set ≤ fills));
+  enough = All-cons (λ (set : Set). len set ≤ fills) empty [] (let n = len-empty nat_cmp Entry in omega (arith, n))
+      (All-nil (λ (set : Set). len set ≤ fills));
   few = omega (arith, none);
 }
 
-each_begins : (number frames : ℕ) (whole : List Slice) (host : List ℕ) (present : ℕ) (kernels : List Kernel) (tenants : List Tenant) → length tenants ≡ length kernels
-    → EachAtStart frames kernels (seats_from frames host present number kernels tenants) → EachStands number frames whole [] [] kernels (seats_from frames host present number kernels tenants) (stops_of tenants)
+each_begins : (number frames : ℕ) (whole : List Slice) (host : List ℕ) (present : ℕ) (kernels : List Kernel) (tenants : List Tenant)
+    → length tenants ≡ length kernels
+    → EachAtStart frames kernels (seats_from frames host present number kernels tenants)
+    → EachStands number frames whole [] [] kernels (seats_from frames host present number kernels tenants) (stops_of tenants)
 each_begins number frames whole host present [] [] len each = tt
 each_begins number frames whole host present [] (t ∷ ts) len each = absurd (omega (arith, len))
 each_begins number frames whole host present (k ∷ ks) [] len each = absurd (omega (arith, len))
-each_begins number frames whole host present (k ∷ ks) (t ∷ ts) len each =
-    (here t.stop each.0.live (seat_of frames host present number k t) each.0.state each.0.fills, each_begins (suc number) frames whole host present ks ts (omega (arith, len)) each.1) where
-      here : (stop : Option Stop) → is_none stop ≡ true → (s : Seat) → state_of of_roots (alone k frames) s.running s.memory ≡ boot (alone k frames) → s.running.fills ≡ 0
-          → StandsSo number frames whole [] [] k s stop
-      here None live s state fills = (no_steps (alone k frames) s.running.fills (state_of of_roots (alone k frames) s.running s.memory) state fills, ap (λ (b : State). b.step) state, refl, refl)
-      here (Some stop) live s state fills = absurd (cc)
+each_begins number frames whole host present (k ∷ ks) (t ∷ ts) len each = (
+  here t.stop each.0.live (seat_of frames host present number k t) each.0.state each.0.fills,
+  each_begins (suc number) frames whole host present ks ts (omega (arith, len)) each.1,
+) where
+  here : (stop : Option Stop) → is_none stop ≡ true → (s : Seat) → state_of of_roots (alone k frames) s.running s.memory ≡ boot
+      (alone k frames) → s.running.fills ≡ 0
+      → StandsSo number frames whole [] [] k s stop
+  here None live s state fills = (
+    no_steps (alone k frames) s.running.fills (state_of of_roots (alone k frames) s.running s.memory) state fills,
+    ap (λ (b : State). b.step) state,
+    refl,
+    refl,
+  )
+  here (Some stop) live s state fills = absurd (cc)
 
 nothing_put : (taken : Option (List ℕ)) → Appends taken taken []
 nothing_put None = tt
 nothing_put (Some old) = ap (λ (z : List ℕ). Some z) (sym (append-nil old))
 
-pub begins : (kernels : List Kernel) (frames : ℕ) (tenants : List Tenant) (pool : Pool) (present : ℕ) (host : List ℕ) → IsAdmitted kernels frames tenants pool present host
+pub begins : (kernels : List Kernel) (frames : ℕ) (tenants : List Tenant) (pool : Pool) (present : ℕ) (host : List ℕ)
+    → IsAdmitted kernels frames tenants pool present host
     → 1 ≤ length kernels → length kernels ≤ 4 → (2048 ≤ frames) × (frames ≤ 16384)
-    → (whole : List Slice) (counts : Counts) (taken : Option (List ℕ)) → IsBetween kernels frames whole [] [] tenants pool present host counts counts taken taken
+    → (whole : List Slice) (counts : Counts) (taken : Option (List ℕ)) → IsBetween kernels frames whole [] [] tenants pool present host
+    counts counts taken taken
 begins kernels frames tenants pool present host h some four size whole counts taken = record {
   rooms = record {
     len = h.len;
@@ -81,12 +94,14 @@ begins kernels frames tenants pool present host h some four size whole counts ta
 }
 
 -- the first that isn't taken in
-pub first_refused : (frames : ℕ) (kernels : List Kernel) (i : ℕ) (d : Kernel) (refusal : SharedFault) → i < length kernels → AllFit frames (take i kernels) → CantAdmit (get_or kernels i d) frames refusal
+pub first_refused : (frames : ℕ) (kernels : List Kernel) (i : ℕ) (d : Kernel) (refusal : SharedFault) → i < length kernels
+    → AllFit frames (take i kernels) → CantAdmit (get_or kernels i d) frames refusal
     → AdmitRefused kernels frames refusal
 first_refused frames kernels i d fault.Write lt fit cant = cant
 first_refused frames kernels i d fault.Memory lt fit cant = tt
 first_refused frames kernels i d (fault.TooSmall small) lt fit cant = first kernels i lt fit cant where
-  first : (kernels : List Kernel) (i : ℕ) → i < length kernels → AllFit frames (take i kernels) → CantAdmit (get_or kernels i d) frames (fault.TooSmall small) → FirstTooSmall frames kernels small
+  first : (kernels : List Kernel) (i : ℕ) → i < length kernels → AllFit frames (take i kernels)
+      → CantAdmit (get_or kernels i d) frames (fault.TooSmall small) → FirstTooSmall frames kernels small
   first [] i lt fit cant = absurd (omega (arith, lt))
   first (k ∷ ks) zero lt fit cant = inl cant
   first (k ∷ ks) (suc i) lt fit cant = inr (fit.0, first ks i (omega (arith, lt)) fit.1 cant)

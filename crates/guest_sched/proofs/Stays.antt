@@ -28,8 +28,10 @@ use Rattle.guest_sched.specs.Apart.{Seat, held_by, HoldsFrames, MayGoOn, IsSeate
 abbrev pub state_with : Running Roots → List ℕ → Set → State
 state_with g ram set = record { cpu = g.cpu; ram = ram; set = set; board = g.board; step = g.step }
 
-module _ (frames : ℕ) (p p' : Pool) (s : Seat) (then_ : List ℕ) (size : length then_ ≡ length s.memory) (front : take (4096 * frames) then_ ≡ take (4096 * frames) s.memory)
-    (same : SameIn (held_by s) s.memory then_) (pools : SameFrames p p') (stands : Stands p' then_) (out : (f : ℕ) → 1 ≤ times f (held_by s) → IsOut p' then_ f)
+module _ (frames : ℕ) (p p' : Pool) (s : Seat) (then_ : List ℕ) (size : length then_ ≡ length s.memory)
+    (front : take (4096 * frames) then_ ≡ take (4096 * frames) s.memory)
+    (same : SameIn (held_by s) s.memory then_) (pools : SameFrames p p') (stands : Stands p' then_)
+    (out : (f : ℕ) → 1 ≤ times f (held_by s) → IsOut p' then_ f)
     (few : length (free_list p' then_) + length (held_by s) < 2 ^ 32) (behind : frames ≤ base_of p)
   where
     module _ (h : HoldsFrames frames p s) where
@@ -46,10 +48,14 @@ module _ (frames : ℕ) (p p' : Pool) (s : Seat) (then_ : List ℕ) (size : leng
       set_same = same-entries (roots.slots s.running.shadows s.memory) (roots.slots s.running.shadows then_) slots_same
 
       state_still : (m : Setting) → m.frames ≡ frames → state_of of_roots m s.running then_ ≡ state_of of_roots m s.running s.memory
-      state_still m is = state_by (shown_same m s.memory then_ (subst (λ (n : ℕ). take (4096 * n) then_ ≡ take (4096 * n) s.memory) (sym is) front)) set_same
+      state_still m is =
+          state_by (shown_same m s.memory then_ (subst (λ (n : ℕ). take (4096 * n) then_ ≡ take (4096 * n) s.memory) (sym is) front))
+          set_same
         where
-          state_by : {ram ram' : List ℕ} {set set' : Set} → ram' ≡ ram → set' ≡ set → state_with s.running ram' set' ≡ state_with s.running ram set
-          state_by {ram} {ram'} {set} {set'} a b = ap (λ (l : List ℕ). state_with s.running l set') a ∙ ap (λ (x : Set). state_with s.running ram x) b
+          state_by : {ram ram' : List ℕ} {set set' : Set} → ram' ≡ ram → set' ≡ set
+              → state_with s.running ram' set' ≡ state_with s.running ram set
+          state_by {ram} {ram'} {set} {set'} a b =
+              ap (λ (l : List ℕ). state_with s.running l set') a ∙ ap (λ (x : Set). state_with s.running ram x) b
 
       stays_still : StaysSo frames s (record s { memory = then_ })
       stays_still = record { step = refl; fills = refl; state = λ m is. inl (state_still m is) }
@@ -89,7 +95,8 @@ module _ (frames : ℕ) (p p' : Pool) (s : Seat) (then_ : List ℕ) (size : leng
               few = omega (arith, few, counts);
               fills = g.held.fills;
               within = subst (λ (set : Set). AreWithin frames set) (sym set_same) g.held.within;
-              open_to = λ page lt. subst (λ (slot : Option Slot). ForSome slot (IsOpenSlot s.image (wp_of s.running.cpu))) (sym (slots_same page lt)) (g.held.open_to page lt);
+              open_to = λ page lt. subst (λ (slot : Option Slot). ForSome slot (IsOpenSlot s.image (wp_of s.running.cpu)))
+                  (sym (slots_same page lt)) (g.held.open_to page lt);
             }
 
         still_ready : IsReady of_roots (ground s.image frames) s.running.cpu s.running.shadows then_
@@ -100,10 +107,14 @@ module _ (frames : ℕ) (p p' : Pool) (s : Seat) (then_ : List ℕ) (size : leng
             record {
               cr3_is = g.ready.cr3_is;
               present = λ unmarked page lt in_.
-                  subst (λ (l : List ℕ). ForSome (roots.slots s.running.shadows then_ page) (IsFoundIn m cpu l cpu.cr3 (roots.read_from s.running.shadows) page)) (sym ram)
-                  (subst (λ (slot : Option Slot). ForSome slot (IsFoundIn m cpu (shown m s.memory) cpu.cr3 (roots.read_from s.running.shadows) page)) (sym (slots_same page lt)) (g.ready.present unmarked page lt in_));
+                  subst (λ (l : List ℕ). ForSome (roots.slots s.running.shadows then_ page)
+                  (IsFoundIn m cpu l cpu.cr3 (roots.read_from s.running.shadows) page)) (sym ram)
+                  (subst (λ (slot : Option Slot). ForSome slot
+                  (IsFoundIn m cpu (shown m s.memory) cpu.cr3 (roots.read_from s.running.shadows) page)) (sym (slots_same page lt))
+                  (g.ready.present unmarked page lt in_));
               others = subst (λ (l : List ℕ). AreReady m cpu l (roots.other_roots s.running.shadows then_)) (sym ram)
-                  (all_ready_shed m cpu (shown m s.memory) (roots.other_roots s.running.shadows s.memory) (roots.other_roots s.running.shadows then_) (same_shed _ _ other_roots_same) g.ready.others);
+                  (all_ready_shed m cpu (shown m s.memory) (roots.other_roots s.running.shadows s.memory)
+                  (roots.other_roots s.running.shadows then_) (same_shed _ _ other_roots_same) g.ready.others);
             }
 
         goes_still : MayGoOn frames p' (record s { memory = then_ })

@@ -22,10 +22,12 @@ use Rattle.guest_sched.proofs.LineEnds.{item_line_is, end_line_is}
 
 -- a line with its tag, and what follows it
 
-rest_of_line : (tag front rest : List ℕ) → has_end front ≡ false → tagged_from tag [] (front ++ 10 ∷ rest) ≡ front ++ 10 ∷ tagged_from tag tag rest
+rest_of_line : (tag front rest : List ℕ) → has_end front ≡ false → tagged_from tag [] (front ++ 10 ∷ rest) ≡ front
+    ++ 10 ∷ tagged_from tag tag rest
 rest_of_line tag [] rest inside = refl
 rest_of_line tag (b ∷ front) rest inside = by_test (b == 10) inside (rest_of_line tag front rest) where
-  by_test : (t : Bool) → (if t then true else has_end front) ≡ false → (has_end front ≡ false → tagged_from tag [] (front ++ 10 ∷ rest) ≡ front ++ 10 ∷ tagged_from tag tag rest)
+  by_test : (t : Bool) → (if t then true else has_end front) ≡ false
+      → (has_end front ≡ false → tagged_from tag [] (front ++ 10 ∷ rest) ≡ front ++ 10 ∷ tagged_from tag tag rest)
       → b ∷ tagged_from tag (if t then tag else []) (front ++ 10 ∷ rest) ≡ b ∷ (front ++ 10 ∷ tagged_from tag tag rest)
   by_test true inside on = absurd (cc)
   by_test false inside on = ap (λ (z : List ℕ). b ∷ z) (on inside)
@@ -33,7 +35,8 @@ rest_of_line tag (b ∷ front) rest inside = by_test (b == 10) inside (rest_of_l
 front_tagged : (tag front rest : List ℕ) → has_end front ≡ false → tagged tag (front ++ 10 ∷ rest) ≡ tag ++ (front ++ 10 ∷ tagged tag rest)
 front_tagged tag [] rest inside = refl
 front_tagged tag (b ∷ front) rest inside = by_test (b == 10) inside (rest_of_line tag front rest) where
-  by_test : (t : Bool) → (if t then true else has_end front) ≡ false → (has_end front ≡ false → tagged_from tag [] (front ++ 10 ∷ rest) ≡ front ++ 10 ∷ tagged_from tag tag rest)
+  by_test : (t : Bool) → (if t then true else has_end front) ≡ false
+      → (has_end front ≡ false → tagged_from tag [] (front ++ 10 ∷ rest) ≡ front ++ 10 ∷ tagged_from tag tag rest)
       → tag ++ b ∷ tagged_from tag (if t then tag else []) (front ++ 10 ∷ rest) ≡ tag ++ (b ∷ (front ++ 10 ∷ tagged_from tag tag rest))
   by_test true inside on = absurd (cc)
   by_test false inside on = ap (λ (z : List ℕ). tag ++ (b ∷ z)) (on inside)
@@ -111,7 +114,8 @@ one_line k text is = All-cons (λ (line : Line). IsLine line.text) (record { ker
 
 item_lines : (k : ℕ) (items : List Item) → AreLines (map (item_of k) items)
 item_lines k [] = no_line
-item_lines k (item ∷ items) = All-cons (λ (line : Line). IsLine line.text) (item_of k item) (map (item_of k) items) (item_line_is item) (item_lines k items)
+item_lines k (item ∷ items) =
+    All-cons (λ (line : Line). IsLine line.text) (item_of k item) (map (item_of k) items) (item_line_is item) (item_lines k items)
 
 stops : (k steps : ℕ) (stop : Option Stop) → AreLines (stop_lines k steps stop)
 stops k steps None = no_line
@@ -125,12 +129,14 @@ turn_lines : (pieces : List Piece) → AreLines (flat_map lines_in pieces)
 turn_lines [] = no_line
 turn_lines (p ∷ pieces) =
     both_lines (lines_in p) (flat_map lines_in pieces)
-    (both_lines (map (item_of p.kernel) (trace_of p.reports)) (stop_lines p.kernel p.steps p.stop) (item_lines p.kernel (trace_of p.reports)) (stops p.kernel p.steps p.stop))
+    (both_lines (map (item_of p.kernel) (trace_of p.reports)) (stop_lines p.kernel p.steps p.stop)
+    (item_lines p.kernel (trace_of p.reports)) (stops p.kernel p.steps p.stop))
     (turn_lines pieces)
 
 end_lines : (k : ℕ) (ended : List Ended) → AreLines (last_lines k ended)
 end_lines k [] = no_line
-end_lines k (e ∷ more) = both_lines (bound_lines k e.steps e.end) (last_lines (suc k) more) (bounds k e.steps e.end) (end_lines (suc k) more)
+end_lines k (e ∷ more) =
+    both_lines (bound_lines k e.steps e.end) (last_lines (suc k) more) (bounds k e.steps e.end) (end_lines (suc k) more)
 
 pub each_is : (pieces : List Piece) (ended : List Ended) → AreLines (shared_lines pieces ended)
 each_is pieces ended = both_lines (flat_map lines_in pieces) (last_lines 0 ended) (turn_lines pieces) (end_lines 0 ended)
@@ -157,22 +163,28 @@ untagged j k front = ap (λ (t : Bool). if t && true then front ++ 10 ∷ [] els
 
 no_end : (front : List ℕ) → has_end front ≡ false → All (λ (b : ℕ). (b == 10) ≡ false) front
 no_end [] inside = All-nil (λ (b : ℕ). (b == 10) ≡ false)
-no_end (b ∷ front) inside = All-cons (λ (x : ℕ). (x == 10) ≡ false) b front (here (b == 10) inside) (no_end front (there (b == 10) inside)) where
-  here : (t : Bool) → (if t then true else has_end front) ≡ false → t ≡ false
-  here true e = absurd (cc)
-  here false e = refl
+no_end (b ∷ front) inside =
+    All-cons (λ (x : ℕ). (x == 10) ≡ false) b front (here (b == 10) inside) (no_end front (there (b == 10) inside)) where
+      here : (t : Bool) → (if t then true else has_end front) ≡ false → t ≡ false
+      here true e = absurd (cc)
+      here false e = refl
 
-  there : (t : Bool) → (if t then true else has_end front) ≡ false → has_end front ≡ false
-  there true e = absurd (cc)
-  there false e = e
+      there : (t : Bool) → (if t then true else has_end front) ≡ false → has_end front ≡ false
+      there true e = absurd (cc)
+      there false e = e
 
-line_cut : (j k : ℕ) (text rest : List ℕ) → IsLine text → lines_of_kernel k ((tag_of j ++ text) ++ rest) ≡ own k (record { kernel = j; text = text }) ++ lines_of_kernel k rest
+line_cut : (j k : ℕ) (text rest : List ℕ) → IsLine text → lines_of_kernel k ((tag_of j ++ text) ++ rest) ≡ own k
+    (record { kernel = j; text = text }) ++ lines_of_kernel k rest
 line_cut j k text rest is =
     ap (λ (z : List ℕ). lines_of_kernel k ((tag_of j ++ z) ++ rest)) is.whole
-    ∙ ap (lines_of_kernel k) (append_assoc (tag_of j) (is.front ++ 10 ∷ []) rest ∙ ap (λ (z : List ℕ). tag_of j ++ z) (append_assoc is.front (10 ∷ []) rest) ∙ sym (append_assoc (tag_of j) is.front (10 ∷ rest)))
+    ∙ ap (lines_of_kernel k)
+    (append_assoc (tag_of j) (is.front ++ 10 ∷ []) rest ∙ ap (λ (z : List ℕ). tag_of j ++ z) (append_assoc is.front (10 ∷ []) rest)
+    ∙ sym (append_assoc (tag_of j) is.front (10 ∷ rest)))
     ∙ ap (flat_map (without_tag (tag_of k))) (slice_split_at (λ (b : ℕ). b == 10) (tag_of j ++ is.front) 10 rest
-    (All-cons (λ (b : ℕ). (b == 10) ≡ false) (48 + j) (32 ∷ is.front) (ne_eqb (48 + j) 10 (λ e. omega arith)) (All-cons (λ (b : ℕ). (b == 10) ≡ false) 32 is.front refl (no_end is.front is.inside))) refl)
-    ∙ ap (λ (z : List ℕ). z ++ lines_of_kernel k rest) (untagged j k is.front ∙ ap (λ (z : List ℕ). if j == k then z else []) (sym is.whole))
+    (All-cons (λ (b : ℕ). (b == 10) ≡ false) (48 + j) (32 ∷ is.front) (ne_eqb (48 + j) 10 (λ e. omega arith))
+    (All-cons (λ (b : ℕ). (b == 10) ≡ false) 32 is.front refl (no_end is.front is.inside))) refl)
+    ∙ ap (λ (z : List ℕ). z ++ lines_of_kernel k rest)
+    (untagged j k is.front ∙ ap (λ (z : List ℕ). if j == k then z else []) (sym is.whole))
 
 lines_cut : (k : ℕ) (lines : List Line) → AreLines lines → lines_of_kernel k (flat_map with_tag lines) ≡ flat_map (own k) lines
 lines_cut k [] each = refl
@@ -194,7 +206,8 @@ own_items j k [] = by_test (j == k) where
   by_test : (t : Bool) → [] ≡ if_own t []
   by_test true = refl
   by_test false = refl
-own_items j k (item ∷ items) = ap (λ (z : List ℕ). own k (item_of j item) ++ z) (own_items j k items) ∙ own_both (j == k) (item_line item) (lines_of items)
+own_items j k (item ∷ items) =
+    ap (λ (z : List ℕ). own k (item_of j item) ++ z) (own_items j k items) ∙ own_both (j == k) (item_line item) (lines_of items)
 
 own_one : (t : Bool) (text : List ℕ) → if_own t text ++ [] ≡ if_own t text
 own_one t text = append-nil (if_own t text)
@@ -211,7 +224,8 @@ own_bound : (j k steps : ℕ) (end : End) → flat_map (own k) (bound_lines j st
 own_bound j k steps Bound = own_one (j == k) (end_line steps Bound)
 own_bound j k steps (Stopped stop) = own_none (j == k)
 
-own_piece : (k : ℕ) (p : Piece) → flat_map (own k) (lines_in p) ≡ if_own (p.kernel == k) (lines_of (trace_of p.reports) ++ stop_line p.steps p.stop)
+own_piece : (k : ℕ) (p : Piece) → flat_map (own k) (lines_in p) ≡ if_own (p.kernel == k)
+    (lines_of (trace_of p.reports) ++ stop_line p.steps p.stop)
 own_piece k p =
     flat_map-append (own k) (map (item_of p.kernel) (trace_of p.reports)) (stop_lines p.kernel p.steps p.stop)
     ∙ ap (λ (z : List ℕ). z ++ flat_map (own k) (stop_lines p.kernel p.steps p.stop)) (own_items p.kernel k (trace_of p.reports))
@@ -239,7 +253,8 @@ later_ends : (k n : ℕ) (ended : List Ended) → k < n → flat_map (own k) (la
 later_ends k n [] less = refl
 later_ends k n (e ∷ more) less =
     flat_map-append (own k) (bound_lines n e.steps e.end) (last_lines (suc n) more)
-    ∙ ap (λ (z : List ℕ). z ++ flat_map (own k) (last_lines (suc n) more)) (own_bound n k e.steps e.end ∙ ap (λ (t : Bool). if_own t (bound_line e.steps e.end)) (ne_eqb n k (λ same. omega arith)))
+    ∙ ap (λ (z : List ℕ). z ++ flat_map (own k) (last_lines (suc n) more))
+    (own_bound n k e.steps e.end ∙ ap (λ (t : Bool). if_own t (bound_line e.steps e.end)) (ne_eqb n k (λ same. omega arith)))
     ∙ later_ends k (suc n) more (omega arith)
 
 pub own_ends : (n k : ℕ) (ended : List Ended) → flat_map (own (n + k)) (last_lines n ended) ≡ last_line k ended
@@ -247,21 +262,26 @@ unfolding last_line
 own_ends n k [] = refl
 own_ends n zero (e ∷ more) =
     flat_map-append (own (n + 0)) (bound_lines n e.steps e.end) (last_lines (suc n) more)
-    ∙ ap (λ (z : List ℕ). z ++ flat_map (own (n + 0)) (last_lines (suc n) more)) (own_bound n (n + 0) e.steps e.end ∙ ap (λ (t : Bool). if_own t (bound_line e.steps e.end)) (eq-eqb n (n + 0) (omega arith)))
+    ∙ ap (λ (z : List ℕ). z ++ flat_map (own (n + 0)) (last_lines (suc n) more))
+    (own_bound n (n + 0) e.steps e.end ∙ ap (λ (t : Bool). if_own t (bound_line e.steps e.end)) (eq-eqb n (n + 0) (omega arith)))
     ∙ ap (λ (z : List ℕ). bound_line e.steps e.end ++ z) (later_ends (n + 0) (suc n) more (omega arith))
     ∙ append-nil (bound_line e.steps e.end)
 own_ends n (suc k) (e ∷ more) =
     let same : n + suc k ≡ suc n + k = omega arith in
     flat_map-append (own (n + suc k)) (bound_lines n e.steps e.end) (last_lines (suc n) more)
-    ∙ ap (λ (z : List ℕ). z ++ flat_map (own (n + suc k)) (last_lines (suc n) more)) (own_bound n (n + suc k) e.steps e.end ∙ ap (λ (t : Bool). if_own t (bound_line e.steps e.end)) (ne_eqb n (n + suc k) (λ same. omega arith)))
+    ∙ ap (λ (z : List ℕ). z ++ flat_map (own (n + suc k)) (last_lines (suc n) more))
+    (own_bound n (n + suc k) e.steps e.end ∙ ap (λ (t : Bool). if_own t (bound_line e.steps e.end))
+    (ne_eqb n (n + suc k) (λ same. omega arith)))
     ∙ ap (λ (j : ℕ). flat_map (own j) (last_lines (suc n) more)) same
     ∙ own_ends (suc n) k more
 
 -- the lines with a kernel's number are its text, and its last line
-pub lines_are : (k : ℕ) (pieces : List Piece) (ended : List Ended) → lines_of_kernel k (shared_text pieces ended) ≡ own_text k pieces ++ last_line k ended
+pub lines_are : (k : ℕ) (pieces : List Piece) (ended : List Ended) → lines_of_kernel k (shared_text pieces ended) ≡ own_text k pieces
+    ++ last_line k ended
 lines_are k pieces ended =
     ap (lines_of_kernel k) (bytes_are pieces ended)
     ∙ lines_cut k (shared_lines pieces ended) (each_is pieces ended)
     ∙ flat_map-append (own k) (flat_map lines_in pieces) (last_lines 0 ended)
     ∙ ap (λ (z : List ℕ). z ++ flat_map (own k) (last_lines 0 ended)) (own_pieces k pieces)
-    ∙ ap (λ (z : List ℕ). own_text k pieces ++ z) (ap (λ (j : ℕ). flat_map (own j) (last_lines 0 ended)) (let e : k ≡ 0 + k = omega arith in e) ∙ own_ends 0 k ended)
+    ∙ ap (λ (z : List ℕ). own_text k pieces ++ z)
+    (ap (λ (j : ℕ). flat_map (own j) (last_lines 0 ended)) (let e : k ≡ 0 + k = omega arith in e) ∙ own_ends 0 k ended)

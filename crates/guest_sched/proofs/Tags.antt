@@ -32,7 +32,8 @@ pub end_past : (text : List ℕ) (i : ℕ) → length text ≤ i → has_end (dr
 end_past text i past = rw (drop_all i text past) refl
 
 -- one text after another
-pub tagged_append : (tag due xs ys : List ℕ) → tagged_from tag due (xs ++ ys) ≡ tagged_from tag due xs ++ tagged_from tag (due_after tag due xs) ys
+pub tagged_append : (tag due xs ys : List ℕ) → tagged_from tag due (xs ++ ys) ≡ tagged_from tag due xs
+    ++ tagged_from tag (due_after tag due xs) ys
 tagged_append tag due [] ys = refl
 tagged_append tag due (b ∷ xs) ys =
     ap (λ (z : List ℕ). due ++ b ∷ z) (tagged_append tag (due_behind tag b) xs ys)
@@ -53,29 +54,37 @@ line_rest : (tag text : List ℕ) → tagged_from tag [] (take (line_len text) t
 line_rest tag [] = refl
 line_rest tag (b ∷ rest) = elim (eqb_tells b 10) [
   | inl (is, same) ↦ rw is refl
-  | inr (isnt, other) ↦ rw isnt (ap (λ (z : List ℕ). b ∷ z) (ap (λ (due : List ℕ). tagged_from tag due (take (line_len rest) rest)) (inside tag b isnt) ∙ line_rest tag rest))
+  | inr (isnt, other) ↦ rw isnt
+      (ap (λ (z : List ℕ). b ∷ z) (ap (λ (due : List ℕ). tagged_from tag due (take (line_len rest) rest)) (inside tag b isnt)
+      ∙ line_rest tag rest))
 ]
 
 -- the first line
-pub line_tagged : (tag due text : List ℕ) → 1 ≤ length text → tagged_from tag due (take (line_len text) text) ≡ due ++ take (line_len text) text
+pub line_tagged : (tag due text : List ℕ) → 1 ≤ length text → tagged_from tag due (take (line_len text) text) ≡ due
+    ++ take (line_len text) text
 line_tagged tag due [] some = absurd (omega arith)
 line_tagged tag due (b ∷ rest) some = elim (eqb_tells b 10) [
   | inl (is, same) ↦ rw is refl
-  | inr (isnt, other) ↦ rw isnt (ap (λ (z : List ℕ). due ++ b ∷ z) (ap (λ (next : List ℕ). tagged_from tag next (take (line_len rest) rest)) (inside tag b isnt) ∙ line_rest tag rest))
+  | inr (isnt, other) ↦ rw isnt
+      (ap (λ (z : List ℕ). due ++ b ∷ z) (ap (λ (next : List ℕ). tagged_from tag next (take (line_len rest) rest)) (inside tag b isnt)
+      ∙ line_rest tag rest))
 ]
 
 due_rest : (tag text : List ℕ) → due_after tag [] (take (line_len text) text) ≡ (if has_end text then tag else [])
 due_rest tag [] = refl
 due_rest tag (b ∷ rest) = elim (eqb_tells b 10) [
   | inl (is, same) ↦ rw is (ended tag b is)
-  | inr (isnt, other) ↦ rw isnt (ap (λ (next : List ℕ). due_after tag next (take (line_len rest) rest)) (inside tag b isnt) ∙ due_rest tag rest)
+  | inr (isnt, other) ↦ rw isnt (ap (λ (next : List ℕ). due_after tag next (take (line_len rest) rest)) (inside tag b isnt)
+      ∙ due_rest tag rest)
 ]
 
-pub line_due : (tag due text : List ℕ) → 1 ≤ length text → due_after tag due (take (line_len text) text) ≡ (if has_end text then tag else [])
+pub line_due : (tag due text : List ℕ) → 1 ≤ length text
+    → due_after tag due (take (line_len text) text) ≡ (if has_end text then tag else [])
 line_due tag due [] some = absurd (omega arith)
 line_due tag due (b ∷ rest) some = elim (eqb_tells b 10) [
   | inl (is, same) ↦ rw is (ended tag b is)
-  | inr (isnt, other) ↦ rw isnt (ap (λ (next : List ℕ). due_after tag next (take (line_len rest) rest)) (inside tag b isnt) ∙ due_rest tag rest)
+  | inr (isnt, other) ↦ rw isnt (ap (λ (next : List ℕ). due_after tag next (take (line_len rest) rest)) (inside tag b isnt)
+      ∙ due_rest tag rest)
 ]
 
 pub line_some : (text : List ℕ) → 1 ≤ length text → 1 ≤ line_len text

@@ -16,12 +16,16 @@ pub flat_append : {X Y : Type 0} (f : X → List Y) (xs ys : List X) → flat_ma
 flat_append f [] ys = refl
 flat_append f (x ∷ xs) ys = ap (λ l. f x ++ l) (flat_append f xs ys) ∙ sym (append_assoc (f x) (flat_map f xs) (flat_map f ys))
 
-pub turns_on : (before : List Piece) (slices : List Slice) (pieces : List Piece) (slice : Slice) (p : Piece) → AreTurns before slices pieces → IsTurn (before ++ pieces) slice p → AreTurns before (slices ++ slice ∷ []) (pieces ++ p ∷ [])
+pub turns_on : (before : List Piece) (slices : List Slice) (pieces : List Piece) (slice : Slice) (p : Piece) → AreTurns before slices pieces
+    → IsTurn (before ++ pieces) slice p → AreTurns before (slices ++ slice ∷ []) (pieces ++ p ∷ [])
 turns_on before [] [] slice p h t = (subst (λ (l : List Piece). IsTurn l slice p) (append-nil before) t, tt)
 turns_on before [] (q ∷ pieces) slice p h t = absurd h
 turns_on before (s ∷ slices) [] slice p h t = absurd h
-turns_on before (s ∷ slices) (q ∷ pieces) slice p h t =
-    (h.0, turns_on (before ++ q ∷ []) slices pieces slice p h.1 (subst (λ (l : List Piece). IsTurn l slice p) (sym (append_assoc before (q ∷ []) pieces)) t))
+turns_on before (s ∷ slices) (q ∷ pieces) slice p h t = (
+  h.0,
+  turns_on (before ++ q ∷ []) slices pieces slice p h.1
+      (subst (λ (l : List Piece). IsTurn l slice p) (sym (append_assoc before (q ∷ []) pieces)) t),
+)
 
 none_later : (b x y z : Bool) → (b || x) ≡ false → (x ≡ false → y ≡ z) → (b || y) ≡ z
 none_later true x y z e f = absurd (cc)
@@ -39,22 +43,26 @@ module _ (n : ℕ) (p : Piece) (mine : p.kernel ≡ n) where
     | inr o ↦ rw (o.0) (reports_on pieces)
   ]
 
-  pub text_on : (pieces : List Piece) → own_text n (pieces ++ p ∷ []) ≡ own_text n pieces ++ (lines_of (trace_of p.reports) ++ stop_line p.steps p.stop)
+  pub text_on : (pieces : List Piece) → own_text n (pieces ++ p ∷ []) ≡ own_text n pieces
+      ++ (lines_of (trace_of p.reports) ++ stop_line p.steps p.stop)
   text_on [] = rw is_mine (append-nil (lines_of (trace_of p.reports) ++ stop_line p.steps p.stop))
   text_on (q ∷ pieces) = elim (eqb_tells q.kernel n) [
     | inl e ↦ rw (e.0)
         (ap (λ l. (lines_of (trace_of q.reports) ++ stop_line q.steps q.stop) ++ l) (text_on pieces)
-        ∙ sym (append_assoc (lines_of (trace_of q.reports) ++ stop_line q.steps q.stop) (own_text n pieces) (lines_of (trace_of p.reports) ++ stop_line p.steps p.stop)))
+        ∙ sym (append_assoc (lines_of (trace_of q.reports) ++ stop_line q.steps q.stop) (own_text n pieces)
+        (lines_of (trace_of p.reports) ++ stop_line p.steps p.stop)))
     | inr o ↦ rw (o.0) (text_on pieces)
   ]
 
   pub stopped_on : (pieces : List Piece) → has_stopped n pieces ≡ false → has_stopped n (pieces ++ p ∷ []) ≡ is_some p.stop
   stopped_on [] h = rw is_mine (or-false (is_some p.stop))
-  stopped_on (q ∷ pieces) h = none_later ((q.kernel == n) && is_some q.stop) (has_stopped n pieces) (has_stopped n (pieces ++ p ∷ [])) (is_some p.stop) h (λ e. stopped_on pieces e)
+  stopped_on (q ∷ pieces) h = none_later ((q.kernel == n) && is_some q.stop) (has_stopped n pieces) (has_stopped n (pieces ++ p ∷ []))
+      (is_some p.stop) h (λ e. stopped_on pieces e)
 
 pub stopped_still : (n : ℕ) (pieces more : List Piece) → has_stopped n pieces ≡ true → has_stopped n (pieces ++ more) ≡ true
 stopped_still n [] more is = absurd (cc)
-stopped_still n (q ∷ pieces) more is = or-less ((q.kernel == n) && is_some q.stop) (has_stopped n pieces) (has_stopped n (pieces ++ more)) is (λ e. stopped_still n pieces more e)
+stopped_still n (q ∷ pieces) more is = or-less ((q.kernel == n) && is_some q.stop) (has_stopped n pieces) (has_stopped n (pieces ++ more))
+    is (λ e. stopped_still n pieces more e)
 
 -- of another's turn
 module _ (n : ℕ) (p : Piece) (others : p.kernel ≢ n) where
@@ -81,6 +89,13 @@ module _ (n : ℕ) (p : Piece) (others : p.kernel ≢ n) where
 
 pub counts_on : (sites : ℕ → List Site) (c : Counts) (pieces : List Piece) (p : Piece)
     → counts_over sites c (pieces ++ p ∷ [])
-    ≡ record { retired = (counts_over sites c pieces).retired + direct_count (sites p.kernel) p.reports; passed = passed_digest (sites p.kernel) (counts_over sites c pieces).passed p.reports }
+    ≡ record {
+      retired = (counts_over sites c pieces).retired + direct_count (sites p.kernel) p.reports;
+      passed = passed_digest (sites p.kernel) (counts_over sites c pieces).passed p.reports;
+    }
 counts_on sites c [] p = refl
-counts_on sites c (q ∷ pieces) p = counts_on sites (record { retired = c.retired + direct_count (sites q.kernel) q.reports; passed = passed_digest (sites q.kernel) c.passed q.reports }) pieces p
+counts_on sites c (q ∷ pieces) p =
+    counts_on sites (record {
+      retired = c.retired + direct_count (sites q.kernel) q.reports;
+      passed = passed_digest (sites q.kernel) c.passed q.reports;
+    }) pieces p

@@ -13,15 +13,18 @@ use Rattle.guest_sched.specs.declared.kernel.Kernel.{Kernel}
 use Rattle.guest_sched.specs.declared.schedule.Slice.{Slice}
 use Rattle.guest_sched.specs.declared.tenants.Tenant.{Tenant}
 
-abbrev pub TurnAs : Setting → List ℕ → ℕ → State → State → Counts → Counts → Option (List ℕ) → Option (List ℕ) → ℕ → ℕ → ℕ → Result Pause Failed → Type 0
+abbrev pub TurnAs : Setting → List ℕ → ℕ → State → State → Counts → Counts → Option (List ℕ) → Option (List ℕ) → ℕ → ℕ → ℕ
+    → Result Pause Failed → Type 0
 TurnAs m tag bound old new before after taken tells pages fills filled result =
-    turns.TurnAs m tag bound old new (record { before = before; after = after; told = taken; tells = tells }) (record { pages = pages; fills = fills; filled = filled }) result
+    turns.TurnAs m tag bound old new (record { before = before; after = after; told = taken; tells = tells })
+    (record { pages = pages; fills = fills; filled = filled }) result
 
 abbrev pub HasTurned : Kernel → ℕ → ℕ → List ℕ → List ℕ → Tenant → Tenant → Counts → Counts → Option (List ℕ) → Option (List ℕ) → Type 0
 HasTurned kernel number steps host host' old new before after taken tells =
     went.HasTurned kernel number steps host host' old new (record { before = before; after = after; told = taken; tells = tells })
 
-abbrev pub IsBetween : List Kernel → ℕ → List Slice → List Slice → List Piece → List Tenant → Pool → ℕ → List ℕ → Counts → Counts → Option (List ℕ) → Option (List ℕ) → Type 0
+abbrev pub IsBetween : List Kernel → ℕ → List Slice → List Slice → List Piece → List Tenant → Pool → ℕ → List ℕ → Counts → Counts
+    → Option (List ℕ) → Option (List ℕ) → Type 0
 IsBetween kernels frames whole done pieces tenants pool present host before now old new =
     between.IsBetween kernels frames whole done pieces (record { tenants = tenants; pool = pool; present = present; memory = host })
     (record { before = before; after = now; told = old; tells = new })

@@ -30,7 +30,8 @@ EachAtStart frames (kernel ∷ kernels) (s ∷ seats) = IsAtStart kernel frames 
 EachAtStart frames kernels seats = ⊥
 
 -- These kernels were taken in: they are apart, each where its run begins, and each holds two frames of the pool.
-pub record IsAdmitted (kernels : List Kernel) (frames : ℕ) (tenants : List Tenant) (pool : Pool) (present : ℕ) (host : List ℕ) : Type 0 where
+pub record IsAdmitted (kernels : List Kernel) (frames : ℕ) (tenants : List Tenant) (pool : Pool) (present : ℕ)
+    (host : List ℕ) : Type 0 where
   pub len : length tenants ≡ length kernels
   pub fits : AllFit frames kernels
   pub apart : AreApart frames pool host (seats_from frames host present 0 kernels tenants)
@@ -44,7 +45,8 @@ pub record IsAdmitted (kernels : List Kernel) (frames : ℕ) (tenants : List Ten
 
 -- No kernel stands in the host's memory any more. All are as they were, wherever their memory is.
 pub record HasParked (frames : ℕ) (host host' : List ℕ) (present : ℕ) (tenants tenants' : List Tenant) : Type 0 where
-  pub seats : (kernels : List Kernel) → seats_from frames host' (length tenants) 0 kernels tenants' ≡ seats_from frames host present 0 kernels tenants
+  pub seats : (kernels : List Kernel) → seats_from frames host' (length tenants) 0 kernels tenants' ≡ seats_from frames host
+      present 0 kernels tenants
   pub len : length tenants' ≡ length tenants
   pub theirs : All (λ (t : Tenant). 4096 * frames ≤ length t.ram) tenants'
   pub size : length host' ≡ length host

@@ -15,7 +15,8 @@ use Rattle.guest_sched.specs.declared.schedule.Slice.{Slice}
 -- what stands after a refusal, with the host's memory
 abbrev pub SharedRefused : List Kernel → List Slice → ℕ → Around → List ℕ → SharedFault → Type 0
 SharedRefused kernels slices frames a memory fault.Write =
-    AllFit frames kernels × (FailsInTurn kernels slices frames a.taken a.taken_after ⊎ FailsAtEnd kernels slices frames memory a.taken a.taken_after)
+    AllFit frames kernels × (FailsInTurn kernels slices frames a.taken a.taken_after ⊎ FailsAtEnd kernels slices frames memory
+    a.taken a.taken_after)
     × Rose a.faults a.faults_after
 SharedRefused kernels slices frames a memory (fault.TooSmall small) = FirstTooSmall frames kernels small × IsUntouched a
 SharedRefused kernels slices frames a memory fault.Memory = IsUntouched a

@@ -50,7 +50,8 @@ pub record IsSeated (frames : ℕ) (pool : Pool) (s : Seat) : Type 0 where
 abbrev pub AreSeated : ℕ → Pool → List ℕ → List Seat → Type 0
 AreSeated frames pool host [] = Unit {0}
 AreSeated frames pool host (s ∷ seats) =
-    IsSeated frames pool s × (length s.memory ≡ length host) × (drop (4096 * frames) s.memory ≡ drop (4096 * frames) host) × AreSeated frames pool host seats
+    IsSeated frames pool s × (length s.memory ≡ length host) × (drop (4096 * frames) s.memory ≡ drop (4096 * frames) host)
+    × AreSeated frames pool host seats
 
 -- how often a frame is held, and how many are held
 abbrev pub times_held : ℕ → List Seat → ℕ
@@ -81,7 +82,8 @@ MayForget old new = (new ≡ old) ⊎ (new ≡ with_set old empty)
 pub record StaysSo (frames : ℕ) (old new : Seat) : Type 0 where
   pub step : new.running.step ≡ old.running.step
   pub fills : new.running.fills ≡ old.running.fills
-  pub state : (m : Setting) → m.frames ≡ frames → MayForget (state_of of_roots m old.running old.memory) (state_of of_roots m new.running new.memory)
+  pub state : (m : Setting) → m.frames ≡ frames → MayForget (state_of of_roots m old.running old.memory)
+      (state_of of_roots m new.running new.memory)
 
 -- so of each kernel
 abbrev pub EachStays : ℕ → List Seat → List Seat → Type 0

@@ -32,11 +32,14 @@ use Rattle.guest_sched.specs.declared.tenants.Tenants.{Tenants}
 -- How far the run of a kernel alone has come by these turns, and its text. One that has met a stop goes no further.
 abbrev pub StandsSo : ℕ → ℕ → List Slice → List Slice → List Piece → Kernel → Seat → Option Stop → Type 0
 StandsSo number frames whole done pieces kernel seat None =
-    HasRun (alone kernel frames) (reports_of number pieces) seat.running.fills (state_of of_roots (alone kernel frames) seat.running seat.memory)
-    × (seat.running.step ≡ bound_of number done) × (own_text number pieces ≡ lines_of (trace_of (reports_of number pieces))) × (has_stopped number pieces ≡ false)
+    HasRun (alone kernel frames) (reports_of number pieces) seat.running.fills
+    (state_of of_roots (alone kernel frames) seat.running seat.memory)
+    × (seat.running.step ≡ bound_of number done) × (own_text number pieces ≡ lines_of (trace_of (reports_of number pieces)))
+    × (has_stopped number pieces ≡ false)
 StandsSo number frames whole done pieces kernel seat (Some stop) =
     HasStopped (alone kernel frames) (bound_of number whole) (reports_of number pieces) seat.running.fills stop seat.running.step
-    × (own_text number pieces ≡ text_of (trace_of (reports_of number pieces)) seat.running.step (Stopped stop)) × (has_stopped number pieces ≡ true)
+    × (own_text number pieces ≡ text_of (trace_of (reports_of number pieces)) seat.running.step (Stopped stop))
+    × (has_stopped number pieces ≡ true)
 
 -- so of each kernel, from this number on
 abbrev pub EachStands : ℕ → ℕ → List Slice → List Slice → List Piece → List Kernel → List Seat → List (Option Stop) → Type 0
@@ -61,7 +64,8 @@ pub record HaveRoom (kernels : List Kernel) (frames : ℕ) (tenants : List Tenan
 
 -- Between two turns of a whole schedule, of which some are done: the kernels are apart, each one's run alone has come so far, the
 -- sink has taken the text of the turns, and the host's counts follow them.
-pub record IsBetween (kernels : List Kernel) (frames : ℕ) (whole done : List Slice) (pieces : List Piece) (s : Stage) (out : Outward) : Type 0 where
+pub record IsBetween (kernels : List Kernel) (frames : ℕ) (whole done : List Slice) (pieces : List Piece) (s : Stage)
+    (out : Outward) : Type 0 where
   pub rooms : HaveRoom kernels frames s.tenants s.pool s.present s.memory
   pub apart : AreApart frames s.pool s.memory (seats_from frames s.memory s.present 0 kernels s.tenants)
   pub turns : AreTurns [] done pieces
@@ -93,7 +97,8 @@ TurnGoes kernels frames slice old new out =
     (whole done : List Slice) (pieces : List Piece) (before : Counts) (was : Option (List ℕ)) → IsNext (length kernels) whole done slice
     → IsBetween kernels frames whole done pieces old (record { before = before; after = out.before; told = was; tells = out.told })
     → (p : Piece) × GoesRound kernels frames slice p old new
-    × IsBetween kernels frames whole (done ++ slice ∷ []) (pieces ++ p ∷ []) new (record { before = before; after = out.after; told = was; tells = out.tells })
+    × IsBetween kernels frames whole (done ++ slice ∷ []) (pieces ++ p ∷ []) new
+    (record { before = before; after = out.after; told = was; tells = out.tells })
 
 -- the sink has failed in it
 abbrev pub TurnFails : List Kernel → ℕ → Slice → Stage → Outward → Type 0
@@ -112,5 +117,6 @@ abbrev pub AdmitsAs : List Kernel → ℕ → List ℕ → Result Tenants Shared
 AdmitsAs kernels frames host (Ok tenants) =
     AllFit frames kernels × (tenants.frames ≡ frames)
     × IsAdmitted kernels frames tenants.list.items tenants.pool tenants.present host
-    × ((whole : List Slice) (counts : Counts) (taken : Option (List ℕ)) → IsBetween kernels frames whole [] [] (stage tenants host) (record { before = counts; after = counts; told = taken; tells = taken }))
+    × ((whole : List Slice) (counts : Counts) (taken : Option (List ℕ)) → IsBetween kernels frames whole [] [] (stage tenants host)
+    (record { before = counts; after = counts; told = taken; tells = taken }))
 AdmitsAs kernels frames host (Err refusal) = AdmitRefused kernels frames refusal

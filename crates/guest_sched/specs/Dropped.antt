@@ -24,4 +24,5 @@ pub record AllDropped (p p' : Pool) (host host' : List ℕ) (old new : Roots) (f
 
 -- the kernel whose shadows these were
 abbrev pub released : ℕ → List ℕ → Seat → Roots → Seat
-released frames host s new = record s { running = record s.running { shadows = new; held = 2 }; memory = take (4096 * frames) s.memory ++ drop (4096 * frames) host }
+released frames host s new =
+    record s { running = record s.running { shadows = new; held = 2 }; memory = take (4096 * frames) s.memory ++ drop (4096 * frames) host }

@@ -10,9 +10,11 @@ size (Some bytes) = length bytes
 
 -- Where it is told, the text was taken with the tag before each line, after what had been taken then; and where a put has
 -- failed, a front of it. Where no put has failed the count of faults is as it was, and where one has failed it rose.
-pub record IsTaken (tag : List ℕ) (begun failed : Bool) (text : List ℕ) (was now : Option (List ℕ)) (faults_then faults_now : ℕ) : Type 0 where
+pub record IsTaken (tag : List ℕ) (begun failed : Bool) (text : List ℕ) (was now : Option (List ℕ))
+    (faults_then faults_now : ℕ) : Type 0 where
   pub whole : failed ≡ false → (before : List ℕ) → was ≡ Some before → now ≡ Some (before ++ tagged tag text)
-  pub front : failed ≡ true → (before : List ℕ) → was ≡ Some before → now ≡ Some (before ++ take (size now - length before) (tagged tag text))
+  pub front : failed ≡ true → (before : List ℕ) → was ≡ Some before
+      → now ≡ Some (before ++ take (size now - length before) (tagged tag text))
   pub due : failed ≡ false → due_after tag tag text ≡ (if begun then [] else tag)
   pub kept : failed ≡ false → faults_now ≡ faults_then
   pub cause : failed ≡ true → Rose faults_then faults_now

@@ -20,7 +20,8 @@ HasOwnEnd m n last Bound ends set fills host =
 HasOwnEnd m n last (Stopped stop) ends set fills host = set ≡ ends.1.set
 
 -- so of each kernel: the set to which its fills are compared is its own
-abbrev pub EachHasOwnEnd : (number frames : ℕ) (slices : List Slice) (pieces : List Piece) (kernels : List Kernel) (ended : List Ended) → EachRan number frames slices pieces kernels ended → List ℕ → Type 0
+abbrev pub EachHasOwnEnd : (number frames : ℕ) (slices : List Slice) (pieces : List Piece) (kernels : List Kernel) (ended : List Ended)
+    → EachRan number frames slices pieces kernels ended → List ℕ → Type 0
 EachHasOwnEnd number frames slices pieces [] [] each host = Unit {0}
 EachHasOwnEnd number frames slices pieces [] (ended ∷ more) each host = ⊥
 EachHasOwnEnd number frames slices pieces (kernel ∷ kernels) [] each host = ⊥

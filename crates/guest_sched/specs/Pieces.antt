@@ -81,13 +81,17 @@ reports_of kernel (p ∷ pieces) = if p.kernel == kernel then p.reports ++ repor
 abbrev pub own_text : ℕ → List Piece → List ℕ
 own_text kernel [] = []
 own_text kernel (p ∷ pieces) =
-    if p.kernel == kernel then (lines_of (trace_of p.reports) ++ stop_line p.steps p.stop) ++ own_text kernel pieces else own_text kernel pieces
+    if p.kernel == kernel then (lines_of (trace_of p.reports) ++ stop_line p.steps p.stop) ++ own_text kernel pieces
+    else own_text kernel pieces
 
 -- the count of direct instructions and their digest, turn by turn, over the sites of each kernel's image
 abbrev pub counts_over : (ℕ → List Site) → Counts → List Piece → Counts
 counts_over sites c [] = c
 counts_over sites c (p ∷ pieces) =
-    counts_over sites (record { retired = c.retired + direct_count (sites p.kernel) p.reports; passed = passed_digest (sites p.kernel) c.passed p.reports }) pieces
+    counts_over sites (record {
+      retired = c.retired + direct_count (sites p.kernel) p.reports;
+      passed = passed_digest (sites p.kernel) c.passed p.reports;
+    }) pieces
 
 -- What is read of the bytes: the lines of a text that begin with a kernel's tag, each without it. The part after the last
 -- line's end is empty.

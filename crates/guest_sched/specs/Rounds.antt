@@ -45,14 +45,17 @@ pub record MakesTurn (kernels : List Kernel) (frames : ℕ) (slice : Slice) (p :
   pub then_ : Tenant
   pub others : new.tenants ≡ slice_set old.tenants old.present then_
   pub ram : then_.ram ≡ tenant.ram
-  pub keeps : Keeps old.pool new.pool old.memory new.memory (roots.frames tenant.guest.shadows old.memory) (roots.frames then_.guest.shadows new.memory)
+  pub keeps : Keeps old.pool new.pool old.memory new.memory (roots.frames tenant.guest.shadows old.memory)
+      (roots.frames then_.guest.shadows new.memory)
   pub sets : List Set
   pub last : State
   pub end : Set
   pub pause : Pause
   pub steps : Steps (alone kernel frames) (state_of of_roots (alone kernel frames) tenant.guest old.memory) sets p.reports last
-  pub ends : PausesAs (alone kernel frames) (tenant.guest.step + slice.steps) last (state_of of_roots (alone kernel frames) then_.guest new.memory) end (Ok pause)
-  pub filled : All (λ (set : Set). CountsFills (pages_kept of_roots tenant.guest.shadows old.memory) (len set) tenant.guest.fills then_.guest.fills) (sets ++ end ∷ [])
+  pub ends : PausesAs (alone kernel frames) (tenant.guest.step + slice.steps) last
+      (state_of of_roots (alone kernel frames) then_.guest new.memory) end (Ok pause)
+  pub filled : All (λ (set : Set). CountsFills (pages_kept of_roots tenant.guest.shadows old.memory) (len set) tenant.guest.fills
+      then_.guest.fills) (sets ++ end ∷ [])
   pub piece : (p.steps ≡ then_.guest.step) × (p.stop ≡ then_.stop)
   pub stop_is : end_with then_.stop ≡ end_of pause
 
@@ -100,7 +103,8 @@ pub record HasGoneRound (kernels : List Kernel) (frames : ℕ) (slices : List Sl
   pub rounds : AreRounds kernels frames slices pieces first last
 
 -- to a turn in which the output failed, after these
-pub record HasBegunRound (kernels : List Kernel) (frames : ℕ) (slices : List Slice) (pieces : List Piece) (slice : Slice) (p : Piece) : Type 0 where
+pub record HasBegunRound (kernels : List Kernel) (frames : ℕ) (slices : List Slice) (pieces : List Piece) (slice : Slice)
+    (p : Piece) : Type 0 where
   pub between : Stage
   pub gone : HasGoneRound kernels frames slices pieces between
   pub ready : Stage
@@ -108,7 +112,8 @@ pub record HasBegunRound (kernels : List Kernel) (frames : ℕ) (slices : List S
   pub turn : BeginsTurn kernels frames p ready
 
 -- to kernels that ended so, with the host's memory
-pub record EndsRound (kernels : List Kernel) (frames : ℕ) (slices : List Slice) (pieces : List Piece) (memory : List ℕ) (ended : List Ended) : Type 0 where
+pub record EndsRound (kernels : List Kernel) (frames : ℕ) (slices : List Slice) (pieces : List Piece) (memory : List ℕ)
+    (ended : List Ended) : Type 0 where
   pub last : Stage
   pub gone : HasGoneRound kernels frames slices pieces last
   pub memory_is : last.memory ≡ memory

@@ -28,7 +28,8 @@ seat_of frames host present i kernel tenant = record {
 abbrev pub seats_from : ℕ → List ℕ → ℕ → ℕ → List Kernel → List Tenant → List Seat
 seats_from frames host present i [] tenants = []
 seats_from frames host present i (kernel ∷ kernels) [] = []
-seats_from frames host present i (kernel ∷ kernels) (tenant ∷ tenants) = seat_of frames host present i kernel tenant ∷ seats_from frames host present (suc i) kernels tenants
+seats_from frames host present i (kernel ∷ kernels) (tenant ∷ tenants) =
+    seat_of frames host present i kernel tenant ∷ seats_from frames host present (suc i) kernels tenants
 
 -- Its memory is exchanged with the front of the host's.
 abbrev pub HasExchanged : ℕ → List ℕ → ℕ → List Tenant → List Tenant → Type 0
@@ -39,13 +40,15 @@ HasExchanged frames host kernel tenants tenants' =
 
 -- Another kernel stands in the host's memory: all are as they were, wherever their memory is.
 pub record HasBrought (frames : ℕ) (host host' : List ℕ) (present present' : ℕ) (tenants tenants' : List Tenant) : Type 0 where
-  pub seats : (kernels : List Kernel) → seats_from frames host' present' 0 kernels tenants' ≡ seats_from frames host present 0 kernels tenants
+  pub seats : (kernels : List Kernel) → seats_from frames host' present' 0 kernels tenants' ≡ seats_from frames host
+      present 0 kernels tenants
   pub guests : map (λ (t : Tenant). t.guest) tenants' ≡ map (λ (t : Tenant). t.guest) tenants
   pub stops : map (λ (t : Tenant). t.stop) tenants' ≡ map (λ (t : Tenant). t.stop) tenants
   pub rooms : All (λ (t : Tenant). 4096 * frames ≤ length t.ram) tenants'
   pub size : length host' ≡ length host
   pub behind : drop (4096 * frames) host' ≡ drop (4096 * frames) host
-  pub apart : (pool : Pool) (kernel : Kernel) (kernels : List Kernel) → AreApart frames pool host (seats_from frames host present 0 (kernel ∷ kernels) tenants)
+  pub apart : (pool : Pool) (kernel : Kernel) (kernels : List Kernel)
+      → AreApart frames pool host (seats_from frames host present 0 (kernel ∷ kernels) tenants)
       → AreApart frames pool host' (seats_from frames host' present' 0 (kernel ∷ kernels) tenants')
 
 -- A kernel has dropped its shadows, and is as it was otherwise.
@@ -73,11 +76,13 @@ abbrev pub KeepsMachines : ℕ → Stage → Stage → Type 0
 KeepsMachines frames old new =
     (kernels : List Kernel) → length kernels ≡ length old.tenants
     → AreApart frames old.pool old.memory (seats_from frames old.memory old.present 0 kernels old.tenants)
-    → EachStays frames (seats_from frames old.memory old.present 0 kernels old.tenants) (seats_from frames new.memory old.present 0 kernels new.tenants)
+    → EachStays frames (seats_from frames old.memory old.present 0 kernels old.tenants)
+    (seats_from frames new.memory old.present 0 kernels new.tenants)
 
 -- They are the kernels of some images, and apart.
 abbrev pub StandApart : ℕ → Pool → List ℕ → ℕ → List Tenant → Type 0
-StandApart frames pool host present tenants = (kernels : List Kernel) × (length kernels ≡ length tenants) × AreApart frames pool host (seats_from frames host present 0 kernels tenants)
+StandApart frames pool host present tenants = (kernels : List Kernel) × (length kernels ≡ length tenants)
+    × AreApart frames pool host (seats_from frames host present 0 kernels tenants)
 
 -- Four kernels at most, that are apart, share a pool of 512 frames.
 pub record MayMakeRoom (frames : ℕ) (s : Stage) : Type 0 where
@@ -101,7 +106,8 @@ pub record HasMadeRoom (present : ℕ) (tenants tenants' : List Tenant) : Type 0
 
 -- a kernel that stands in the host's memory may go on
 abbrev pub GoesOn : Kernel → Pool → List ℕ → Tenant → Type 0
-GoesOn kernel pool host tenant = MayGoOn tenant.guest.frames pool (record { image = kernel.image; running = tenant.guest; memory = host; live = true })
+GoesOn kernel pool host tenant =
+    MayGoOn tenant.guest.frames pool (record { image = kernel.image; running = tenant.guest; memory = host; live = true })
 
 -- It has met no stop, and it and the free frames have enough for a slice.
 pub record TakesTurn (kernel : Kernel) (pool : Pool) (host : List ℕ) (tenant : Tenant) : Type 0 where

@@ -35,7 +35,8 @@ EachRan number frames slices pieces [] [] = Unit {0}
 EachRan number frames slices pieces [] (ended ∷ more) = ⊥
 EachRan number frames slices pieces (kernel ∷ kernels) [] = ⊥
 EachRan number frames slices pieces (kernel ∷ kernels) (ended ∷ more) =
-    RanAlone (alone kernel frames) (bound_of number slices) (reports_of number pieces) (own_text number pieces ++ bound_line ended.steps ended.end) ended × EachRan (suc number) frames slices pieces kernels more
+    RanAlone (alone kernel frames) (bound_of number slices) (reports_of number pieces)
+    (own_text number pieces ++ bound_line ended.steps ended.end) ended × EachRan (suc number) frames slices pieces kernels more
 
 -- the sites of a kernel's image
 abbrev pub sites_in : List Kernel → ℕ → List Site
@@ -47,12 +48,14 @@ sites_in (kernel ∷ kernels) (suc number) = sites_in kernels number
 abbrev pub LinesAreAlone : ℕ → List ℕ → List Piece → List Ended → Type 0
 LinesAreAlone number text pieces [] = Unit {0}
 LinesAreAlone number text pieces (ended ∷ more) =
-    (lines_of_kernel number text ≡ text_of (trace_of (reports_of number pieces)) ended.steps ended.end) × LinesAreAlone (suc number) text pieces more
+    (lines_of_kernel number text ≡ text_of (trace_of (reports_of number pieces)) ended.steps ended.end)
+    × LinesAreAlone (suc number) text pieces more
 
 -- a kernel's first steps, as if it were alone, and their lines: with the last one where it met a stop after them
 abbrev pub IsBegun : Setting → List Report → State → List ℕ → Type 0
 IsBegun m reports last text =
-    (text ≡ lines_of (trace_of reports)) ⊎ ((stop : Stop) × StopHolds m last stop × (text ≡ text_of (trace_of reports) last.step (Stopped stop)))
+    (text ≡ lines_of (trace_of reports))
+    ⊎ ((stop : Stop) × StopHolds m last stop × (text ≡ text_of (trace_of reports) last.step (Stopped stop)))
 
 pub record BeganAlone (m : Setting) (reports : List Report) (text : List ℕ) : Type 0 where
   pub sets : List Set
@@ -62,7 +65,8 @@ pub record BeganAlone (m : Setting) (reports : List Report) (text : List ℕ) : 
 
 abbrev pub EachBegan : ℕ → ℕ → List Piece → List Kernel → Type 0
 EachBegan number frames pieces [] = Unit {0}
-EachBegan number frames pieces (kernel ∷ kernels) = BeganAlone (alone kernel frames) (reports_of number pieces) (own_text number pieces) × EachBegan (suc number) frames pieces kernels
+EachBegan number frames pieces (kernel ∷ kernels) =
+    BeganAlone (alone kernel frames) (reports_of number pieces) (own_text number pieces) × EachBegan (suc number) frames pieces kernels
 
 -- the first kernel whose image needs more frames than there are
 abbrev pub FirstTooSmall : ℕ → List Kernel → TooSmall → Type 0

@@ -13,7 +13,8 @@ use Rattle.guest_sched.specs.Rounds.{EndsRound, HasBegunRound}
 
 -- The turns are those of the schedule, in its order. Each kernel's turns make a run of it alone, with its own set at the end,
 -- and the host's counts follow all of them. Before each turn no more parked kernels were released than it needed.
-pub record SharedRun (kernels : List Kernel) (slices : List Slice) (frames : ℕ) (before after : Counts) (memory text : List ℕ) (ended : List Ended) : Type 0 where
+pub record SharedRun (kernels : List Kernel) (slices : List Slice) (frames : ℕ) (before after : Counts) (memory text : List ℕ)
+    (ended : List Ended) : Type 0 where
   pub pieces : List Piece
   pub turns : AreTurns [] slices pieces
   pub each : EachRan 0 frames slices pieces kernels ended
@@ -42,7 +43,8 @@ pub record FailsInTurn (kernels : List Kernel) (slices : List Slice) (frames : �
   pub rounds : HasBegunRound kernels frames done pieces slice last
 
 -- The sink has failed in the last lines, after all turns.
-pub record FailsAtEnd (kernels : List Kernel) (slices : List Slice) (frames : ℕ) (memory : List ℕ) (old new : Option (List ℕ)) : Type 0 where
+pub record FailsAtEnd (kernels : List Kernel) (slices : List Slice) (frames : ℕ) (memory : List ℕ)
+    (old new : Option (List ℕ)) : Type 0 where
   pub pieces : List Piece
   pub ended : List Ended
   pub turns : AreTurns [] slices pieces

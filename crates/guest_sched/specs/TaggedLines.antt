@@ -33,7 +33,8 @@ stop_lines kernel steps None = []
 stop_lines kernel steps (Some stop) = record { kernel = kernel; text = end_line steps (Stopped stop) } ∷ []
 
 abbrev pub lines_in : Piece → List Line
-lines_in p = map (λ (item : Item). record { kernel = p.kernel; text = item_line item }) (trace_of p.reports) ++ stop_lines p.kernel p.steps p.stop
+lines_in p =
+    map (λ (item : Item). record { kernel = p.kernel; text = item_line item }) (trace_of p.reports) ++ stop_lines p.kernel p.steps p.stop
 
 -- the last lines of those that met no stop
 abbrev pub bound_lines : ℕ → ℕ → End → List Line

@@ -21,7 +21,8 @@ use Rattle.guest_sched.specs.declared.kernel.Kernel.{Kernel}
 -- Steps under the monitor's rules, up to the bound or to a stop, led from the old state to the last. Their lines were put with
 -- the tag before each, the host completed their direct instructions, and each of their sets, and the one after them, has no
 -- more pages than were kept at first and were filled since.
-pub record TurnAs (m : Setting) (tag : List ℕ) (bound : ℕ) (old new : State) (out : Outward) (filling : Filling) (result : Result Pause Failed) : Type 0 where
+pub record TurnAs (m : Setting) (tag : List ℕ) (bound : ℕ) (old new : State) (out : Outward) (filling : Filling)
+    (result : Result Pause Failed) : Type 0 where
   pub sets : List Set
   pub reports : List Report
   pub last : State

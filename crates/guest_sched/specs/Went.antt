@@ -19,7 +19,8 @@ use Rattle.guest_sched.specs.declared.tenants.Tenant.{Tenant}
 
 abbrev pub EndsSo : ℕ → Tenant → Option (List ℕ) → Option (List ℕ) → Pause → Type 0
 EndsSo number new taken tells Reached = (new.stop ≡ None) × (tells ≡ taken)
-EndsSo number new taken tells (Stopped stop) = (new.stop ≡ Some stop) × Appends taken tells (tagged (tag_of number) (end_line new.guest.step (end.Stopped stop)))
+EndsSo number new taken tells (Stopped stop) =
+    (new.stop ≡ Some stop) × Appends taken tells (tagged (tag_of number) (end_line new.guest.step (end.Stopped stop)))
 
 -- The steps of a turn were made, all of them or those up to a stop, whose line stands after theirs.
 pub record HasTurned (kernel : Kernel) (number steps : ℕ) (host host' : List ℕ) (old new : Tenant) (out : Outward) : Type 0 where

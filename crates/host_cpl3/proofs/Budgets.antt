@@ -64,11 +64,13 @@ page_not m root write at = fault_not (is_there (walked m root (at / 4096))) writ
 
 fetching_not : (m : List ℕ) (root at len : ℕ) → NotBudget (fetching m root at len)
 unfolding fetching
-fetching_not m root at len = then_not (page_met m root false at) (λ frame. gives (part m (4096 * frame + at % 4096) len)) (page_not m root false at) (λ frame. tt)
+fetching_not m root at len =
+    then_not (page_met m root false at) (λ frame. gives (part m (4096 * frame + at % 4096) len)) (page_not m root false at) (λ frame. tt)
 
 on_not : (m : List ℕ) (root eip : ℕ) (front : List ℕ) → NotBudget (fetched_on m root eip front)
 unfolding fetched_on
-on_not m root eip front = then_not (fetching m root (eip / 4096 * 4096 + 4096) longest) (λ more. gives (decoded (front ++ more))) (fetching_not m root (eip / 4096 * 4096 + 4096) longest) (λ more. tt)
+on_not m root eip front = then_not (fetching m root (eip / 4096 * 4096 + 4096) longest) (λ more. gives (decoded (front ++ more)))
+    (fetching_not m root (eip / 4096 * 4096 + 4096) longest) (λ more. tt)
 
 wrap_not : (b : Bool) (x : Met Decoded) → NotBudget x → NotBudget (cond b (Err exits.Wrap) x)
 wrap_not true x h = tt
@@ -81,7 +83,8 @@ by_not m root eip front begins.Short = wrap_not (eqb (eip / 4096) 1048575) (fetc
 
 fetched_not : (m : List ℕ) (root eip : ℕ) → NotBudget (fetched m root eip)
 unfolding fetched
-fetched_not m root eip = then_not (fetching m root eip (front_len eip)) (λ front. fetched_by m root eip front (decoded front)) (fetching_not m root eip (front_len eip)) (λ front. by_not m root eip front (decoded front))
+fetched_not m root eip = then_not (fetching m root eip (front_len eip)) (λ front. fetched_by m root eip front (decoded front))
+    (fetching_not m root eip (front_len eip)) (λ front. by_not m root eip front (decoded front))
 
 spelled_not : (d : Decoded) → NotBudget (spelled d)
 spelled_not (begins.Insn insn len) = tt
@@ -123,11 +126,16 @@ choice_not false x y h k = k
 pages_not : (m : List ℕ) (root : ℕ) (write : Bool) (r : Range) → NotBudget (pages_met m root write r)
 unfolding pages_met
 pages_not m root write r =
-    let both : (first : ℕ) → NotBudget (cond (eqb (last_page r) (r.at / 4096)) (gives first) (page_met m root write (last_page r * 4096)) >>= (λ last. gives (first, last))) =
-    λ first. then_not (cond (eqb (last_page r) (r.at / 4096)) (gives first) (page_met m root write (last_page r * 4096))) (λ last. gives (first, last))
-    (choice_not (eqb (last_page r) (r.at / 4096)) (gives first) (page_met m root write (last_page r * 4096)) tt (page_not m root write (last_page r * 4096))) (λ last. tt)
+    let both : (first : ℕ) → NotBudget (cond (eqb (last_page r) (r.at / 4096)) (gives first) (page_met m root write (last_page r * 4096))
+    >>= (λ last. gives (first, last))) =
+    λ first. then_not (cond (eqb (last_page r) (r.at / 4096)) (gives first) (page_met m root write (last_page r * 4096)))
+    (λ last. gives (first, last))
+    (choice_not (eqb (last_page r) (r.at / 4096)) (gives first) (page_met m root write (last_page r * 4096)) tt
+    (page_not m root write (last_page r * 4096))) (λ last. tt)
     in
-    then_not (page_met m root write r.at) (λ first. cond (eqb (last_page r) (r.at / 4096)) (gives first) (page_met m root write (last_page r * 4096)) >>= (λ last. gives (first, last))) (page_not m root write r.at) both
+    then_not (page_met m root write r.at)
+    (λ first. cond (eqb (last_page r) (r.at / 4096)) (gives first) (page_met m root write (last_page r * 4096))
+    >>= (λ last. gives (first, last))) (page_not m root write r.at) both
 
 limit_not : (g : Seg) → IsOther (limit_fault g)
 limit_not Es = tt
@@ -138,8 +146,11 @@ limit_not Ds = tt
 range_not : (m : List ℕ) (v : View) (write : Bool) (r : Range) → NotBudget (range_met m v write r)
 unfolding range_met
 range_not m v write r =
-    then_not (unless exits.Wrap (leb (r.at + r.len) 4294967296)) (λ _. unless (limit_fault r.seg) (not (is_past_limit v r.at)) >>= (λ _. pages_met m v.root write r)) (unless_not exits.Wrap (leb (r.at + r.len) 4294967296) tt)
-    (λ _. then_not (unless (limit_fault r.seg) (not (is_past_limit v r.at))) (λ _. pages_met m v.root write r) (unless_not (limit_fault r.seg) (not (is_past_limit v r.at)) (limit_not r.seg)) (λ _. pages_not m v.root write r))
+    then_not (unless exits.Wrap (leb (r.at + r.len) 4294967296))
+    (λ _. unless (limit_fault r.seg) (not (is_past_limit v r.at)) >>= (λ _. pages_met m v.root write r))
+    (unless_not exits.Wrap (leb (r.at + r.len) 4294967296) tt)
+    (λ _. then_not (unless (limit_fault r.seg) (not (is_past_limit v r.at))) (λ _. pages_met m v.root write r)
+    (unless_not (limit_fault r.seg) (not (is_past_limit v r.at)) (limit_not r.seg)) (λ _. pages_not m v.root write r))
 
 access_not : (m : List ℕ) (v : View) (write : Bool) (o : Option Range) → NotBudget (access_met m v write o)
 access_not m v write None = tt
@@ -170,7 +181,8 @@ worked_not v m r insn len =
     (λ _. finished_not v insn.op m (user_effect (selectors_of v) insn len r (byte_at m v.root)))))))
 
 -- after the test of the window
-inside_not : (v : View) (m : List ℕ) (r : Regs) → NotBudget (fetched m v.root r.eip >>= (λ begun. spelled begun >>= (λ read. worked v m r read.0 read.1)))
+inside_not : (v : View) (m : List ℕ) (r : Regs)
+    → NotBudget (fetched m v.root r.eip >>= (λ begun. spelled begun >>= (λ read. worked v m r read.0 read.1)))
 inside_not v m r =
     let rest : Decoded → Met (Completion × List ℕ) = λ begun. spelled begun >>= (λ read. worked v m r read.0 read.1) in
     then_not (fetched m v.root r.eip) rest (fetched_not m v.root r.eip)
@@ -189,7 +201,9 @@ pub step_exits : (v : View) (m : List ℕ) (r : Regs) → Exits v r (host_step v
 unfolding host_step
 step_exits v m r = by_window (is_entry v r.eip) refl
   where
-    by_window : (b : Bool) → is_entry v r.eip ≡ b → Exits v r (unless (exits.Entry r.eip) (not b) >>= (λ _. fetched m v.root r.eip >>= (λ begun. spelled begun >>= (λ read. worked v m r read.0 read.1))))
+    by_window : (b : Bool) → is_entry v r.eip ≡ b
+        → Exits v r (unless (exits.Entry r.eip) (not b)
+        >>= (λ _. fetched m v.root r.eip >>= (λ begun. spelled begun >>= (λ read. worked v m r read.0 read.1))))
     by_window true e = inl (e, refl)
     by_window false e = others_exit v r _ (inside_not v m r)
 
@@ -207,7 +221,8 @@ no_budget v r (Err other) (inr h) exit e b = subst IsOther (same other exit e �
 pub step_not : (v : View) (m : List ℕ) (r : Regs) (exit : Exit) → host_step v m r ≡ Err exit → exit ≡ exits.Budget → ⊥
 step_not v m r exit e = no_budget v r (host_step v m r) (step_exits v m r) exit e
 
-entry_is : (v : View) (r : Regs) (x : Met (Completion × List ℕ)) → Exits v r x → (at : ℕ) → x ≡ Err (exits.Entry at) → (is_entry v r.eip ≡ true) × (at ≡ r.eip)
+entry_is : (v : View) (r : Regs) (x : Met (Completion × List ℕ)) → Exits v r x → (at : ℕ) → x ≡ Err (exits.Entry at)
+    → (is_entry v r.eip ≡ true) × (at ≡ r.eip)
 entry_is v r (Ok x) h at e = absurd cc
 entry_is v r (Err other) (inl h) at e = (h.0, let f : exits.Entry at ≡ exits.Entry r.eip = sym (same other (exits.Entry at) e) ∙ h.1 in cc)
   where
@@ -218,5 +233,6 @@ entry_is v r (Err other) (inr h) at e = absurd (subst IsOther (same other (exits
     same : (a b : Exit) → ◌≡◌ {A = Met (Completion × List ℕ)} (Err a) (Err b) → a ≡ b
     same a b g = cc
 
-pub step_entry : (v : View) (m : List ℕ) (r : Regs) (at : ℕ) → host_step v m r ≡ Err (exits.Entry at) → (is_entry v r.eip ≡ true) × (at ≡ r.eip)
+pub step_entry : (v : View) (m : List ℕ) (r : Regs) (at : ℕ) → host_step v m r ≡ Err (exits.Entry at)
+    → (is_entry v r.eip ≡ true) × (at ≡ r.eip)
 step_entry v m r at e = entry_is v r (host_step v m r) (step_exits v m r) at e

@@ -33,7 +33,8 @@ use Rattle.host_cpl3.proofs.Leading.{bound}
 below : (page : ℕ) → nat_lt page 1048576 ≡ true → page < 1048576
 below page e = ltb-true page 1048576 e
 
-there_below : (write : Bool) (at page frame : ℕ) (walk : Walk) (b : Bool) → nat_lt page 1048576 ≡ b → by_walk write at (cond b walk Absent) ≡ Ok frame → page < 1048576
+there_below : (write : Bool) (at page frame : ℕ) (walk : Walk) (b : Bool) → nat_lt page 1048576 ≡ b
+    → by_walk write at (cond b walk Absent) ≡ Ok frame → page < 1048576
 there_below write at page frame walk true t e = below page t
 there_below write at page frame walk false t e = absurd cc
 
@@ -41,7 +42,8 @@ there_below write at page frame walk false t e = absurd cc
 pub page_below : (m : List ℕ) (root : ℕ) (write : Bool) (at frame : ℕ) → page_met m root write at ≡ Ok frame → at < 2 ^ 32
 unfolding page_met
 page_below m root write at frame e =
-    let lt = there_below write at (at / 4096) frame (fresh m (length m / 4096) (4096 * root) false (at / 4096)) (nat_lt (at / 4096) 1048576) refl e in
+    let lt = there_below write at (at / 4096) frame (fresh m (length m / 4096) (4096 * root) false (at / 4096))
+    (nat_lt (at / 4096) 1048576) refl e in
     omega (arith, lt)
 
 pub begins_below : (v : View) (m : List ℕ) (r : Regs) (x : Completion × List ℕ) → host_step v m r ≡ Ok x → r.eip < 2 ^ 32
@@ -58,7 +60,8 @@ each_begins_below v n s mid t i h k = begins_below v mid.ram mid.regs (Completed
 
 -- ---- into the window
 
-entered : (v : View) (o : Op) (r regs : Regs) (b : Bool) → (is_jump o && is_entry v r.eip) ≡ b → cond b (Entered r) (Completed r) ≡ Entered regs → is_entry v regs.eip ≡ true
+entered : (v : View) (o : Op) (r regs : Regs) (b : Bool) → (is_jump o && is_entry v r.eip) ≡ b
+    → cond b (Entered r) (Completed r) ≡ Entered regs → is_entry v regs.eip ≡ true
 entered v o r regs true t e =
     let same : r ≡ regs = cc in
     ap (λ (x : Regs). is_entry v x.eip) (Rattle.std.proofs.Common.sym same) ∙ both (is_jump o) (is_entry v r.eip) t
@@ -68,7 +71,8 @@ entered v o r regs true t e =
     both false c g = absurd cc
 entered v o r regs false t e = absurd cc
 
-finished_enters : (v : View) (o : Op) (m : List ℕ) (x : Outcome) (regs : Regs) (after : List ℕ) → finished v o m x ≡ Ok (Entered regs, after) → is_entry v regs.eip ≡ true
+finished_enters : (v : View) (o : Op) (m : List ℕ) (x : Outcome) (regs : Regs) (after : List ℕ)
+    → finished v o m x ≡ Ok (Entered regs, after) → is_entry v regs.eip ≡ true
 finished_enters v o m (outcomes.Done r stores) regs after e =
     let same : ended v o r ≡ Entered regs = first (ended v o r) (Entered regs) _ after e in
     entered v o r regs (is_jump o && is_entry v r.eip) refl same
@@ -78,7 +82,8 @@ finished_enters v o m (outcomes.Done r stores) regs after e =
 finished_enters v o m (outcomes.Raise vector code) regs after e = absurd cc
 finished_enters v o m (outcomes.Stop stop) regs after e = absurd cc
 
-worked_enters : (v : View) (m : List ℕ) (r : Regs) (insn : Insn) (len : ℕ) (regs : Regs) (after : List ℕ) → worked v m r insn len ≡ Ok (Entered regs, after) → is_entry v regs.eip ≡ true
+worked_enters : (v : View) (m : List ℕ) (r : Regs) (insn : Insn) (len : ℕ) (regs : Regs) (after : List ℕ)
+    → worked v m r insn len ≡ Ok (Entered regs, after) → is_entry v regs.eip ≡ true
 unfolding worked
 worked_enters v m r insn len regs after e =
     let x : Completion × List ℕ = (Entered regs, after) in
@@ -86,10 +91,12 @@ worked_enters v m r insn len regs after e =
     let q = bound (segment_met v (ranges_of insn r).read) _ x p.1.1 in
     let s = bound (segment_met v (ranges_of insn r).write) _ x q.1.1 in
     let t = bound (access_met m v false (ranges_of insn r).read) _ x s.1.1 in
-    let u = bound (access_met m v true (ranges_of insn r).write) (λ _. finished v insn.op m (user_effect (selectors_of v) insn len r (byte_at m v.root))) x t.1.1 in
+    let u = bound (access_met m v true (ranges_of insn r).write)
+    (λ _. finished v insn.op m (user_effect (selectors_of v) insn len r (byte_at m v.root))) x t.1.1 in
     finished_enters v insn.op m (user_effect (selectors_of v) insn len r (byte_at m v.root)) regs after u.1.1
 
-pub enters : (v : View) (m : List ℕ) (r regs : Regs) (after : List ℕ) → host_step v m r ≡ Ok (Entered regs, after) → is_entry v regs.eip ≡ true
+pub enters : (v : View) (m : List ℕ) (r regs : Regs) (after : List ℕ) → host_step v m r ≡ Ok (Entered regs, after)
+    → is_entry v regs.eip ≡ true
 unfolding host_step
 enters v m r regs after e =
     let x : Completion × List ℕ = (Entered regs, after) in

@@ -10,7 +10,8 @@ use Rattle.ia32_exec.specs.Effect.{effect}
 use Rattle.ia32_exec.specs.UserEffect.{IsUserDone, user_effect, user_row}
 use Rattle.host_cpl3.specs.Insensitive.{is_insensitive}
 
-by_row : (o : Op) (g : Selectors) (i : Insn) (len : ℕ) (r : Regs) (b : ℕ → ℕ) → is_insensitive o ≡ true → user_row o g i len r b ≡ effect i len r b
+by_row : (o : Op) (g : Selectors) (i : Insn) (len : ℕ) (r : Regs) (b : ℕ → ℕ) → is_insensitive o ≡ true
+    → user_row o g i len r b ≡ effect i len r b
 by_row Return g i len r b h = absurd cc
 by_row JumpTo g i len r b h = absurd cc
 by_row CallTo g i len r b h = absurd cc
@@ -18,7 +19,8 @@ by_row ReadSeg g i len r b h = absurd cc
 by_row PushSeg g i len r b h = absurd cc
 by_row _ g i len r b h = refl
 
-pub same_effect : (g : Selectors) (i : Insn) (len : ℕ) (r : Regs) (b : ℕ → ℕ) → is_insensitive i.op ≡ true → user_effect g i len r b ≡ effect i len r b
+pub same_effect : (g : Selectors) (i : Insn) (len : ℕ) (r : Regs) (b : ℕ → ℕ) → is_insensitive i.op ≡ true
+    → user_effect g i len r b ≡ effect i len r b
 unfolding user_effect
 same_effect g i len r b h = by_row i.op g i len r b h
 

@@ -23,7 +23,8 @@ no_range (Register n) size r h = refl
 no_range (Segment s) size r h = refl
 no_range (Control n) size r h = refl
 
-by_row : (o : Op) (i : Insn) (r : Regs) → is_by_operands o ≡ true → is_memory i.a ≡ false → is_memory i.b ≡ false → ranges_row o i r ≡ nothing
+by_row : (o : Op) (i : Insn) (r : Regs) → is_by_operands o ≡ true → is_memory i.a ≡ false → is_memory i.b ≡ false
+    → ranges_row o i r ≡ nothing
 by_row Add i r t a b = rw (no_range i.a i.size r a, no_range i.b i.size r b) refl
 by_row Or i r t a b = rw (no_range i.a i.size r a, no_range i.b i.size r b) refl
 by_row Adc i r t a b = rw (no_range i.a i.size r a, no_range i.b i.size r b) refl

@@ -16,17 +16,23 @@ one_more : (k i : ℕ) → i < k → k - i ≡ suc (k - (i + 1))
 one_more k i lt = omega arith
 
 -- with i of k instructions done
-stepped : (v : View) (k i : ℕ) (s : Standing) (met : Met (Completion × List ℕ)) → i < k → host_step v s.ram s.regs ≡ met → host_run v (k - i) s ≡ after_step s met (host_run v (k - (i + 1)))
+stepped : (v : View) (k i : ℕ) (s : Standing) (met : Met (Completion × List ℕ)) → i < k → host_step v s.ram s.regs ≡ met
+    → host_run v (k - i) s ≡ after_step s met (host_run v (k - (i + 1)))
 unfolding host_run
 stepped v k i s met lt e = ap (λ n. host_run v n s) (one_more k i lt) ∙ ap (λ x. after_step s x (host_run v (k - (i + 1)))) e
 
-pub run_on : (v : View) (k i : ℕ) (s : Standing) (done : Completion) (regs : Regs) (ram : List ℕ) → i < k → host_step v s.ram s.regs ≡ Ok (done, ram) → done ≡ Completed regs → host_run v (k - i) s ≡ host_run v (k - (i + 1)) (counted s regs ram)
+pub run_on : (v : View) (k i : ℕ) (s : Standing) (done : Completion) (regs : Regs) (ram : List ℕ) → i < k
+    → host_step v s.ram s.regs ≡ Ok (done, ram) → done ≡ Completed regs → host_run v (k - i) s ≡ host_run v (k - (i + 1))
+    (counted s regs ram)
 run_on v k i s done regs ram lt e is = stepped v k i s (Ok (Completed regs, ram)) lt (e ∙ ap (λ (d : Completion). Ok (d, ram)) is)
 
-pub run_enters : (v : View) (k i : ℕ) (s : Standing) (done : Completion) (regs : Regs) (ram : List ℕ) → i < k → host_step v s.ram s.regs ≡ Ok (done, ram) → done ≡ Entered regs → host_run v (k - i) s ≡ (Entry regs.eip, record s { regs = regs; ram = ram })
+pub run_enters : (v : View) (k i : ℕ) (s : Standing) (done : Completion) (regs : Regs) (ram : List ℕ) → i < k
+    → host_step v s.ram s.regs ≡ Ok (done, ram) → done ≡ Entered regs
+    → host_run v (k - i) s ≡ (Entry regs.eip, record s { regs = regs; ram = ram })
 run_enters v k i s done regs ram lt e is = stepped v k i s (Ok (Entered regs, ram)) lt (e ∙ ap (λ (d : Completion). Ok (d, ram)) is)
 
-pub run_exits : (v : View) (k i : ℕ) (s : Standing) (exit : Exit) (ram : List ℕ) → i < k → host_step v s.ram s.regs ≡ Err exit → ram ≡ s.ram → host_run v (k - i) s ≡ (exit, record s { ram = ram })
+pub run_exits : (v : View) (k i : ℕ) (s : Standing) (exit : Exit) (ram : List ℕ) → i < k → host_step v s.ram s.regs ≡ Err exit → ram ≡ s.ram
+    → host_run v (k - i) s ≡ (exit, record s { ram = ram })
 run_exits v k i s exit ram lt e same = stepped v k i s (Err exit) lt e ∙ ap (λ (m : List ℕ). (exit, record s { ram = m })) (sym same)
 
 pub run_ends : (v : View) (k i : ℕ) (s : Standing) → k ≡ i → host_run v (k - i) s ≡ (Budget, s)
@@ -34,7 +40,8 @@ unfolding host_run
 run_ends v k i s e = ap (λ n. host_run v n s) (let z : k - i ≡ 0 = omega (arith, e) in z)
 
 -- one completed instruction before a run
-one_first : (v : View) (k : ℕ) (s : Standing) (regs : Regs) (ram : List ℕ) (exit : Exit) (t : Standing) → host_step v s.ram s.regs ≡ Ok (Completed regs, ram) → IsRun v k (counted s regs ram) exit t → IsRun v (suc k) s exit t
+one_first : (v : View) (k : ℕ) (s : Standing) (regs : Regs) (ram : List ℕ) (exit : Exit) (t : Standing)
+    → host_step v s.ram s.regs ≡ Ok (Completed regs, ram) → IsRun v k (counted s regs ram) exit t → IsRun v (suc k) s exit t
 one_first v k s regs ram exit t e h = record {
   n = suc h.n;
   last = h.last;
@@ -47,14 +54,18 @@ one_first v k s regs ram exit t e h = record {
   budget = λ b. let n : suc h.n ≡ suc k = omega (arith, h.budget b) in n;
 }
 
-by_step : (v : View) (k : ℕ) (s : Standing) (met : Met (Completion × List ℕ)) → host_step v s.ram s.regs ≡ met → ((t : Standing) → IsRun v k t (host_run v k t).0 (host_run v k t).1)
+by_step : (v : View) (k : ℕ) (s : Standing) (met : Met (Completion × List ℕ)) → host_step v s.ram s.regs ≡ met
+    → ((t : Standing) → IsRun v k t (host_run v k t).0 (host_run v k t).1)
     → IsRun v (suc k) s (after_step s met (host_run v k)).0 (after_step s met (host_run v k)).1
 by_step v k s (Ok (Completed regs, ram)) e h = one_first v k s regs ram _ _ e (h (counted s regs ram))
 by_step v k s (Ok (Entered regs, ram)) e h = record {
   n = 0;
   last = s;
   runs = refl;
-  ends = inr (let lt : 0 < suc k = omega arith in lt, subst (λ (m : Met (Completion × List ℕ)). Leaves m s (Entry regs.eip) (record s { regs = regs; ram = ram })) (sym e) (refl, refl));
+  ends = inr (
+    let lt : 0 < suc k = omega arith in lt,
+    subst (λ (m : Met (Completion × List ℕ)). Leaves m s (Entry regs.eip) (record s { regs = regs; ram = ram })) (sym e) (refl, refl),
+  );
   retired = omega arith;
   budget = λ b. absurd cc;
 }

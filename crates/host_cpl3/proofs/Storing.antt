@@ -19,12 +19,15 @@ use Rattle.host_cpl3.specs.Reaches.{placed}
 use Rattle.host_cpl3.specs.Store.{all_stored}
 use Rattle.host_cpl3.proofs.Writing.{but_refl, but_trans}
 
-pub stored_more : (at : ℕ → ℕ) (m : List ℕ) (ws : List Store) (w : Store) → all_stored at m (ws ++ w ∷ []) ≡ number_stored at (all_stored at m ws) w.at w.size w.value
+pub stored_more : (at : ℕ → ℕ) (m : List ℕ) (ws : List Store) (w : Store) → all_stored at m (ws ++ w ∷ []) ≡ number_stored at
+    (all_stored at m ws) w.at w.size w.value
 stored_more at m [] w = refl
 stored_more at m (v ∷ ws) w = stored_more at (number_stored at m v.at v.size v.value) ws w
 
 -- numbers that a range takes one after another
-pub written_in : (x : Reach) (a : List ℕ) (ws : List Store) (b : List ℕ) → FoldsTo (λ (old : List ℕ) (w : Store) (new : List ℕ). (new ≡ number_stored (placed x) old w.at w.size w.value) × SameBut old new x.first x.last) a ws b
+pub written_in : (x : Reach) (a : List ℕ) (ws : List Store) (b : List ℕ)
+    → FoldsTo (λ (old : List ℕ) (w : Store) (new : List ℕ). (new ≡ number_stored (placed x) old w.at w.size w.value) × SameBut old new
+    x.first x.last) a ws b
     → (b ≡ all_stored (placed x) a ws) × SameBut a b x.first x.last
 written_in x a [] b e = (sym e, subst (λ (m : List ℕ). SameBut a m x.first x.last) e (but_refl a x.first x.last))
 written_in x a (w ∷ ws) b (j, now, rest) =
@@ -58,7 +61,8 @@ module _ (f g : ℕ → ℕ) where
       ∙ ap (λ p. put (g a) (g (a + 1)) p (f (a + 3))) y
       ∙ ap (λ p. put (g a) (g (a + 1)) (g (a + 2)) p) z
 
-  longs_same : (m : List ℕ) (n a : ℕ) (vs : List ℕ) → AreAll Same a (4 * n) → all_stored f m (longs_to n a vs) ≡ all_stored g m (longs_to n a vs)
+  longs_same : (m : List ℕ) (n a : ℕ) (vs : List ℕ) → AreAll Same a (4 * n)
+      → all_stored f m (longs_to n a vs) ≡ all_stored g m (longs_to n a vs)
   longs_same m zero a vs h = refl
   longs_same m (suc n) a vs h =
       let w : Store = store (a + 4 * n) Long (slice_index vs n) in

@@ -20,8 +20,10 @@ EachBeginsBelow = (v : View) (n : ℕ) (s mid t : Standing) (i : ℕ) → RunsTo
 
 -- a jump that isn't counted leads into the window
 abbrev pub EntersTheWindow : Type 0
-EntersTheWindow = (v : View) (memory : List ℕ) (r regs : Regs) (after : List ℕ) → host_step v memory r ≡ Ok (done.Entered regs, after) → is_entry v regs.eip ≡ true
+EntersTheWindow = (v : View) (memory : List ℕ) (r regs : Regs) (after : List ℕ) → host_step v memory r ≡ Ok (done.Entered regs, after)
+    → is_entry v regs.eip ≡ true
 
 -- the exit of the window is that of an EIP in it
 abbrev pub ExitsInTheWindow : Type 0
-ExitsInTheWindow = (v : View) (memory : List ℕ) (r : Regs) (at : ℕ) → host_step v memory r ≡ Err (exits.Entry at) → (is_entry v r.eip ≡ true) × (at ≡ r.eip)
+ExitsInTheWindow = (v : View) (memory : List ℕ) (r : Regs) (at : ℕ) → host_step v memory r ≡ Err (exits.Entry at)
+    → (is_entry v r.eip ≡ true) × (at ≡ r.eip)

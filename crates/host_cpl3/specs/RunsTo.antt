@@ -13,7 +13,8 @@ use Rattle.host_cpl3.specs.HostRun.{Standing, counted, host_run}
 -- n instructions complete and count
 abbrev pub RunsTo : View → ℕ → Standing → Standing → Type 0
 RunsTo v zero s t = t ≡ s
-RunsTo v (suc n) s t = (regs : Regs) × ((ram : List ℕ) × ((host_step v s.ram s.regs ≡ Ok (Completed regs, ram)) × RunsTo v n (counted s regs ram) t))
+RunsTo v (suc n) s t =
+    (regs : Regs) × ((ram : List ℕ) × ((host_step v s.ram s.regs ≡ Ok (Completed regs, ram)) × RunsTo v n (counted s regs ram) t))
 
 -- the next instruction doesn't count: it jumps into the wedge window, or it exits, and all is as before it
 abbrev pub Leaves : Met (Completion × List ℕ) → Standing → Exit → Standing → Type 0

@@ -116,16 +116,19 @@ unfolding signed_quotient
 signed_back_at s h k a b e g p room la lb some =
     let x : ℤ = signed_at h a in
     let y : ℤ = signed_at h b in
-    let n : signed_at k (bits_at k (x *ℤ y)) ≡ x *ℤ y = signed_of_bits k (x *ℤ y) (product_fits h k x y (abs_signed h a la) (abs_signed h b lb) room) in
+    let n : signed_at k (bits_at k (x *ℤ y)) ≡ x *ℤ y =
+    signed_of_bits k (x *ℤ y) (product_fits h k x y (abs_signed h a la) (abs_signed h b lb) room) in
     let q : int_div (signed_at k (bits_at k (x *ℤ y))) y ≡ x = ap (λ z. int_div z y) n ∙ back x y (abs_some h b lb some) in
     let r : int_rem (signed_at k (bits_at k (x *ℤ y))) y ≡ pos 0 = ap (λ z. int_rem z y) n ∙ nothing_left x y in
     let fit : fits_at h (int_div (signed_at k (bits_at k (x *ℤ y))) y) ≡ true = ap (fits_at h) q ∙ signed_in_range h a la in
     let at : bits_at h (int_div (signed_at k (bits_at k (x *ℤ y))) y) ≡ a = ap (bits_at h) q ∙ bits_of_signed h a la in
     let rest : bits_at h (int_rem (signed_at k (bits_at k (x *ℤ y))) y) ≡ 0 = ap (bits_at h) r ∙ mod-eq_of_lt (omega arith) in
     let o : ℕ → ℕ → Option (ℕ × ℕ) = λ t d.
-    some_pair (bits_at t (int_div (signed_at d (bits_at k (x *ℤ y))) (signed_at t b))) (bits_at t (int_rem (signed_at d (bits_at k (x *ℤ y))) (signed_at t b))) in
+    some_pair (bits_at t (int_div (signed_at d (bits_at k (x *ℤ y))) (signed_at t b)))
+    (bits_at t (int_rem (signed_at d (bits_at k (x *ℤ y))) (signed_at t b))) in
     let G : ℕ → ℕ → Type 0 = λ t d.
-    cond {A = Option (ℕ × ℕ)} (eqb b 0) None (cond {A = Option (ℕ × ℕ)} (fits_at t (int_div (signed_at d (bits_at k (x *ℤ y))) (signed_at t b))) (o t d) None) ≡ some_pair a 0 in
+    cond {A = Option (ℕ × ℕ)} (eqb b 0) None
+    (cond {A = Option (ℕ × ℕ)} (fits_at t (int_div (signed_at d (bits_at k (x *ℤ y))) (signed_at t b))) (o t d) None) ≡ some_pair a 0 in
     let at_numbers : G h k =
     taken (eqb b 0) (fits_at h (int_div (signed_at k (bits_at k (x *ℤ y))) y)) _ (isnt_zero b some) fit ∙ pairs at rest in
     subst (λ t. G t (double_top s)) (sym e) (subst (λ d. G h d) (sym g) at_numbers)

@@ -72,13 +72,15 @@ rem_not_positive (pos n) d l = grind (arith, ints, nat_tests)
 rem_not_positive (negsuc n) d l = grind (arith, ints, nat_tests)
 
 of_numbers : (h d : ℕ) (n : ℤ) → d < 2 * h → 0 < d → fits_at h (int_div n (signed_at h d)) ≡ true →
-    DividesSigned n (signed_at h d) (signed_at h (bits_at h (int_div n (signed_at h d)))) (signed_at h (bits_at h (int_rem n (signed_at h d))))
+    DividesSigned n (signed_at h d) (signed_at h (bits_at h (int_div n (signed_at h d))))
+    (signed_at h (bits_at h (int_rem n (signed_at h d))))
 of_numbers h d n l p f =
     let by : ℤ = signed_at h d in
     let less : unsigned_abs (int_rem n by) < unsigned_abs by = rem_below n by (abs_some h d l p) in
     let bound : unsigned_abs by ≤ h = abs_signed h d l in
     let q : signed_at h (bits_at h (int_div n by)) ≡ int_div n by = signed_of_bits h (int_div n by) f in
-    let r : signed_at h (bits_at h (int_rem n by)) ≡ int_rem n by = signed_of_bits h (int_rem n by) (fits_below h (int_rem n by) (omega arith)) in
+    let r : signed_at h (bits_at h (int_rem n by)) ≡ int_rem n by =
+    signed_of_bits h (int_rem n by) (fits_below h (int_rem n by) (omega arith)) in
     let P : ℤ → Type 0 = λ x. DividesSigned n by x (signed_at h (bits_at h (int_rem n by))) in
     let Q : ℤ → Type 0 = λ x. DividesSigned n by (int_div n by) x in
     subst P (sym q) (subst Q (sym r) (record {
@@ -92,8 +94,10 @@ pub divided_signed : (s : Size) (n d : ℕ) → d < span s →
     IfSome (signed_quotient s n d) (λ q. DividesSigned (signed_at (double_top s) n) (signed s d) (signed s q.0) (signed s q.1))
 unfolding signed_quotient
 divided_signed Byte n d l = not_by_zero _ d _ (λ some. given _ _ _ (λ fit. of_numbers (2 ^ 7) d (signed_at (double_top Byte) n) l some fit))
-divided_signed Word n d l = not_by_zero _ d _ (λ some. given _ _ _ (λ fit. of_numbers (2 ^ 15) d (signed_at (double_top Word) n) l some fit))
-divided_signed Long n d l = not_by_zero _ d _ (λ some. given _ _ _ (λ fit. of_numbers (2 ^ 31) d (signed_at (double_top Long) n) l some fit))
+divided_signed Word n d l =
+    not_by_zero _ d _ (λ some. given _ _ _ (λ fit. of_numbers (2 ^ 15) d (signed_at (double_top Word) n) l some fit))
+divided_signed Long n d l =
+    not_by_zero _ d _ (λ some. given _ _ _ (λ fit. of_numbers (2 ^ 31) d (signed_at (double_top Long) n) l some fit))
 
 pub unsigned_division : (s : Size) (high b by : ℕ) →
     IfSome (divide false s high b by) (λ q. Divides (low s high * span s + low s b) (low s by) q.0 q.1)
@@ -101,12 +105,14 @@ unfolding divide
 unsigned_division s high b by = divided s (low s high * span s + low s b) (low s by)
 
 pub signed_division : (s : Size) (high b by : ℕ) →
-    IfSome (divide true s high b by) (λ q. DividesSigned (signed_at (double_top s) (low s high * span s + low s b)) (signed s (low s by)) (signed s q.0) (signed s q.1))
+    IfSome (divide true s high b by) (λ q. DividesSigned (signed_at (double_top s) (low s high * span s + low s b)) (signed s (low s by))
+    (signed s q.0) (signed s q.1))
 unfolding divide
 signed_division s high b by = divided_signed s (low s high * span s + low s b) (low s by) (low_small s by)
 
 -- where there is a quotient
-some_as : {A : Type 0} (x : A) (zero fit below : Bool) → (zero ≡ true → below ≡ false) → (zero ≡ false → fit ≡ below) → is_some (cond zero None (cond fit (Some x) None)) ≡ below
+some_as : {A : Type 0} (x : A) (zero fit below : Bool) → (zero ≡ true → below ≡ false) → (zero ≡ false → fit ≡ below)
+    → is_some (cond zero None (cond fit (Some x) None)) ≡ below
 some_as x true fit below z f = sym (z refl)
 some_as x false true below z f = f refl
 some_as x false false below z f = f refl
@@ -143,7 +149,8 @@ as_tests x true fit = refl
 as_tests x false true = refl
 as_tests x false false = refl
 
-pub refused : (s : Size) (high b by : ℕ) → is_some (divide false s high b by) ≡ (not (low s by == 0) && nat_lt ((low s high * span s + low s b) / low s by) (span s))
+pub refused : (s : Size) (high b by : ℕ)
+    → is_some (divide false s high b by) ≡ (not (low s by == 0) && nat_lt ((low s high * span s + low s b) / low s by) (span s))
 unfolding divide unsigned_quotient
 refused s high b by =
     let n = low s high * span s + low s b in
@@ -151,7 +158,8 @@ refused s high b by =
     as_tests (n / d, n % d) (d == 0) (nat_lt (n / d) (span s))
 
 pub signed_refused : (s : Size) (high b by : ℕ) →
-    is_some (divide true s high b by) ≡ (not (low s by == 0) && fits s (int_div (signed_at (double_top s) (low s high * span s + low s b)) (signed s (low s by))))
+    is_some (divide true s high b by)
+    ≡ (not (low s by == 0) && fits s (int_div (signed_at (double_top s) (low s high * span s + low s b)) (signed s (low s by))))
 unfolding divide signed_quotient
 signed_refused s high b by =
     let n : ℤ = signed_at (double_top s) (low s high * span s + low s b) in
@@ -169,6 +177,7 @@ found : (s : Size) (q d r : ℕ) → r < d → q < span s → unsigned_quotient 
 unfolding unsigned_quotient
 found s q d r less fit = rw (not_zero d r less, only_quotient q d r less, mod-mul-add q d r less, is_below q (span s) fit) refl
 
-pub only_division : (s : Size) (high b by q r : ℕ) → Divides (low s high * span s + low s b) (low s by) q r → q < span s → divide false s high b by ≡ Some (q, r)
+pub only_division : (s : Size) (high b by q r : ℕ) → Divides (low s high * span s + low s b) (low s by) q r → q < span s
+    → divide false s high b by ≡ Some (q, r)
 unfolding divide
 only_division s high b by q r is fit = ap (λ (n : ℕ). unsigned_quotient s n (low s by)) is.whole ∙ found s q (low s by) r is.less fit

@@ -136,4 +136,5 @@ subtracted s a b f = tells_difference s (low s a) (low s b) 0 f (low_small s a) 
 pub subtracted_with_borrow : (s : Size) (a b : ℕ) (f : Flags) →
     TellsDifference s (low s a) (low s b) (worth (bit f.bits carry_at)) (alu Sbb s a b f).0 (alu Sbb s a b f).1
 unfolding alu
-subtracted_with_borrow s a b f = tells_difference s (low s a) (low s b) (worth (bit f.bits carry_at)) f (low_small s a) (low_small s b) (worth_small _)
+subtracted_with_borrow s a b f =
+    tells_difference s (low s a) (low s b) (worth (bit f.bits carry_at)) f (low_small s a) (low_small s b) (worth_small _)

@@ -62,7 +62,8 @@ abbrev ends_within : List ℕ → List ℕ → ℕ → Bool
 ends_within starts numbers k = nat_le (slice_index starts (k + 1)) (length numbers)
 
 abbrev list_is_part : List ℕ → List ℕ → ℕ → Bool
-list_is_part starts numbers k = in_order starts k && ends_within starts numbers k && all_under (length (listed starts numbers k)) (number_below (listed starts numbers k))
+list_is_part starts numbers k = in_order starts k && ends_within starts numbers k
+    && all_under (length (listed starts numbers k)) (number_below (listed starts numbers k))
 
 abbrev pub lists_are_parts : List ℕ → List ℕ → Bool
 lists_are_parts starts numbers = all_under 512 (list_is_part starts numbers)
@@ -70,7 +71,8 @@ lists_are_parts starts numbers = all_under 512 (list_is_part starts numbers)
 -- a row is listed where there is no byte, and one after 0F where there is no second
 abbrev pub first_is_listed : List ℕ → List ℕ → Row → Bool
 first_is_listed starts numbers other =
-    nat_lt 0 (length (listed starts numbers 0)) && nat_lt 0 (length (listed starts numbers 0x0f)) && is_escape (first_row (listed starts numbers 0x0f) other).form.lead
+    nat_lt 0 (length (listed starts numbers 0)) && nat_lt 0 (length (listed starts numbers 0x0f))
+    && is_escape (first_row (listed starts numbers 0x0f) other).form.lead
 
 -- ---- what the test says
 
@@ -83,17 +85,20 @@ under (suc n) test h k lt =
       | inr ge ↦ let same : n ≡ k = omega arith in subst (λ m. test m ≡ true) same s.0
     ]
 
-code_listed : (lists : ℕ → List ℕ) (n : ℕ) (form : Form) → codes_listed lists n form ≡ true → (b : ℕ) → has_code form b ≡ true → member n (lists b) ≡ true
+code_listed : (lists : ℕ → List ℕ) (n : ℕ) (form : Form) → codes_listed lists n form ≡ true → (b : ℕ) → has_code form b ≡ true
+    → member n (lists b) ≡ true
 code_listed lists n form h b c =
     let s = and_parts (nat_le (first_code form) b) (nat_le b (last_code form)) c in
     let lo = leb-true (first_code form) b s.0 in
     let hi = leb-true b (last_code form) s.1 in
     let same : first_code form + (b - first_code form) ≡ b = omega (arith, lo) in
-    subst (λ k. member n (lists k) ≡ true) same (under (suc (last_code form) - first_code form) _ h (b - first_code form) (omega (arith, lo, hi)))
+    subst (λ k. member n (lists k) ≡ true) same
+    (under (suc (last_code form) - first_code form) _ h (b - first_code form) (omega (arith, lo, hi)))
 
 -- ---- a row that is not listed meets a wrong byte
 
-if_passed : {A : Type 0} (t : Bool) (b : ℕ) (bytes : List ℕ) (f : ℕ → Reader A) → (t ≡ true → and_then (tested t b bytes) f ≡ Err Outside) → and_then (tested t b bytes) f ≡ Err Outside
+if_passed : {A : Type 0} (t : Bool) (b : ℕ) (bytes : List ℕ) (f : ℕ → Reader A) → (t ≡ true → and_then (tested t b bytes) f ≡ Err Outside)
+    → and_then (tested t b bytes) f ≡ Err Outside
 if_passed true b bytes f h = h refl
 if_passed false b bytes f h = refl
 
@@ -116,7 +121,8 @@ key_is b x [] e f = e
 key_is b x (c ∷ more) e f = ap (λ y. key (y ∷ c ∷ more)) e ∙ ap (λ t. if t then 256 + c else x) f
 
 missed : (lists : ℕ → List ℕ) (n : ℕ) (form : Form) (l : Lead) → by_lead lists n form l ≡ true → (bytes : List ℕ)
-    → (member n (lists (key bytes)) ≡ true → (lead_at l >>= λ _. coded_at form) bytes ≡ Err Outside) → Enough bytes → (lead_at l >>= λ _. coded_at form) bytes ≡ Err Outside
+    → (member n (lists (key bytes)) ≡ true → (lead_at l >>= λ _. coded_at form) bytes ≡ Err Outside) → Enough bytes
+    → (lead_at l >>= λ _. coded_at form) bytes ≡ Err Outside
 unfolding lead_at coded_at
 missed lists n form l t [] h e = absurd e
 missed lists n form lead.Nothing t (b ∷ more) h e =
@@ -135,13 +141,16 @@ missed lists n form lead.Escape t (b ∷ c ∷ more) h e =
     opened ∙ if_passed (has_code form c) c more _ (λ d.
     sym opened ∙ h (subst (λ k. member n (lists k) ≡ true) (sym at) (code_listed (λ b. lists (256 + b)) n form t c d))))
 
-row_test : (lists : ℕ → List ℕ) (k n i : ℕ) (rs : List Row) (other : Row) → all_rows lists k rs ≡ true → n ≡ k + i → i < length rs → by_lead lists n (get_or rs i other).form (get_or rs i other).form.lead ≡ true
+row_test : (lists : ℕ → List ℕ) (k n i : ℕ) (rs : List Row) (other : Row) → all_rows lists k rs ≡ true → n ≡ k + i → i < length rs
+    → by_lead lists n (get_or rs i other).form (get_or rs i other).form.lead ≡ true
 row_test lists k n i [] other h e lt = absurd (omega arith)
 row_test lists k n zero (r ∷ rs) other h e lt =
     let same : k ≡ n = omega (arith, e) in
-    subst (λ m. by_lead lists m r.form r.form.lead ≡ true) same (and_parts (by_lead lists k r.form r.form.lead) (all_rows lists (suc k) rs) h).0
+    subst (λ m. by_lead lists m r.form r.form.lead ≡ true) same
+    (and_parts (by_lead lists k r.form r.form.lead) (all_rows lists (suc k) rs) h).0
 row_test lists k n (suc i) (r ∷ rs) other h e lt =
-    row_test lists (suc k) n i rs other (and_parts (by_lead lists k r.form r.form.lead) (all_rows lists (suc k) rs) h).1 (omega (arith, e)) (omega (arith, lt))
+    row_test lists (suc k) n i rs other (and_parts (by_lead lists k r.form r.form.lead) (all_rows lists (suc k) rs) h).1
+    (omega (arith, e)) (omega (arith, lt))
 
 -- no row meets a wrong byte where there is none, and none with 0F before its opcode meets one at 0F alone
 no_wrong : (form : Form) (l : Lead) → (lead_at l >>= λ _. coded_at form) [] ≡ Err Outside → ⊥
@@ -164,31 +173,39 @@ first_number ns h =
     let lt = ltb-true 0 (length ns) h in
     (0, lt, get_or_default ns 0 (get_or ns 0 0) 0 lt)
 
-enough : (starts numbers : List ℕ) (other : Row) → first_is_listed starts numbers other ≡ true → (bytes : List ℕ) → AllMissed (listed starts numbers) bytes → Enough bytes
+enough : (starts numbers : List ℕ) (other : Row) → first_is_listed starts numbers other ≡ true → (bytes : List ℕ)
+    → AllMissed (listed starts numbers) bytes → Enough bytes
 unfolding parts_at
 enough starts numbers other t [] h =
     let a = and_parts (nat_lt 0 (length (listed starts numbers 0)) && nat_lt 0 (length (listed starts numbers 0x0f))) _ t in
     let ns = listed starts numbers 0 in
-    no_wrong (first_row ns other).form (first_row ns other).form.lead (h (get_or ns 0 0) (first_number ns (and_parts (nat_lt 0 (length ns)) _ a.0).0) other)
+    no_wrong (first_row ns other).form (first_row ns other).form.lead
+    (h (get_or ns 0 0) (first_number ns (and_parts (nat_lt 0 (length ns)) _ a.0).0) other)
 enough starts numbers other t (b ∷ []) h = λ w.
     let a = and_parts (nat_lt 0 (length (listed starts numbers 0)) && nat_lt 0 (length (listed starts numbers 0x0f))) _ t in
     let ns = listed starts numbers 0x0f in
     let g = subst (λ b. AllMissed (listed starts numbers) (b ∷ [])) (eqb-true b 0x0f w) h in
-    no_second (first_row ns other).form (first_row ns other).form.lead a.1 (g (get_or ns 0 0) (first_number ns (and_parts (nat_lt 0 (length (listed starts numbers 0))) _ a.0).1) other)
+    no_second (first_row ns other).form (first_row ns other).form.lead a.1
+    (g (get_or ns 0 0) (first_number ns (and_parts (nat_lt 0 (length (listed starts numbers 0))) _ a.0).1) other)
 enough starts numbers other t (b ∷ c ∷ more) h = tt
 
-whole : (starts numbers : List ℕ) → rows_are_listed starts numbers ≡ true → ((other : Row) → first_is_listed starts numbers other ≡ true) → (bytes : List ℕ)
+whole : (starts numbers : List ℕ) → rows_are_listed starts numbers ≡ true
+    → ((other : Row) → first_is_listed starts numbers other ≡ true) → (bytes : List ℕ)
     → AllMissed (listed starts numbers) bytes → (n : ℕ) → n < length rows → Misses bytes n
 unfolding parts_at
 whole starts numbers t first bytes h n lt other =
-    missed (listed starts numbers) n (get_or rows n other).form (get_or rows n other).form.lead (row_test (listed starts numbers) 0 n n rows other t (omega arith) lt) bytes
-    (λ m. h n (Contains-from_any {eq = eqb} eqb-true n (listed starts numbers (key bytes)) m) other) (enough starts numbers other (first other) bytes h)
+    missed (listed starts numbers) n (get_or rows n other).form (get_or rows n other).form.lead
+    (row_test (listed starts numbers) 0 n n rows other t (omega arith) lt) bytes
+    (λ m. h n (Contains-from_any {eq = eqb} eqb-true n (listed starts numbers (key bytes)) m) other)
+    (enough starts numbers other (first other) bytes h)
 
 part : (starts numbers : List ℕ) → lists_are_parts starts numbers ≡ true → (k : ℕ) → k < 512
-    → (slice_index starts k ≤ slice_index starts (k + 1)) × (slice_index starts (k + 1) ≤ length numbers) × ((i : ℕ) → i < length (listed starts numbers k) → slice_index (listed starts numbers k) i < 228)
+    → (slice_index starts k ≤ slice_index starts (k + 1)) × (slice_index starts (k + 1) ≤ length numbers)
+    × ((i : ℕ) → i < length (listed starts numbers k) → slice_index (listed starts numbers k) i < 228)
 part starts numbers t k lt =
     let ns = listed starts numbers k in
-    let a = and_parts (in_order starts k && ends_within starts numbers k) (all_under (length ns) (number_below ns)) (under 512 (list_is_part starts numbers) t k lt) in
+    let a = and_parts (in_order starts k && ends_within starts numbers k) (all_under (length ns) (number_below ns))
+    (under 512 (list_is_part starts numbers) t k lt) in
     let b = and_parts (in_order starts k) (ends_within starts numbers k) a.0 in (
       leb-true (slice_index starts k) (slice_index starts (k + 1)) b.0,
       leb-true (slice_index starts (k + 1)) (length numbers) b.1,
@@ -199,7 +216,8 @@ rows_count : length rows ≡ 228
 unfolding rows
 rows_count = refl
 
-pub is_index : (starts numbers : List ℕ) → length starts ≡ 513 → lists_are_parts starts numbers ≡ true → rows_are_listed starts numbers ≡ true → ((other : Row) → first_is_listed starts numbers other ≡ true) → IsIndex starts numbers
+pub is_index : (starts numbers : List ℕ) → length starts ≡ 513 → lists_are_parts starts numbers ≡ true
+    → rows_are_listed starts numbers ≡ true → ((other : Row) → first_is_listed starts numbers other ≡ true) → IsIndex starts numbers
 is_index starts numbers count parts all first = record {
   keys = count;
   order = λ k lt. (part starts numbers parts k lt).0;
@@ -212,11 +230,15 @@ is_index starts numbers count parts all first = record {
 abbrev pub FirstMiss : List ℕ → List ℕ → ℕ → Type 0
 FirstMiss ns bytes count = (k : ℕ) → k < count → Misses bytes (slice_index ns k)
 
-pub misses : (table : List Row) → table ≡ rows → (bytes : List ℕ) (n : ℕ) (d : Row) → n < length table → parts_at (get_or table n d).form bytes ≡ Err Outside → Misses bytes n
+pub misses : (table : List Row) → table ≡ rows → (bytes : List ℕ) (n : ℕ) (d : Row) → n < length table
+    → parts_at (get_or table n d).form bytes ≡ Err Outside → Misses bytes n
 misses table same bytes n d lt e other =
-    ap (λ t. parts_at (get_or t n other).form bytes) (sym same) ∙ ap (λ (r : Row). parts_at r.form bytes) (get_or_default table n other d lt) ∙ e
+    ap (λ t. parts_at (get_or t n other).form bytes) (sym same)
+    ∙ ap (λ (r : Row). parts_at r.form bytes) (get_or_default table n other d lt) ∙ e
 
-pub none_left : (starts numbers : List ℕ) → IsIndex starts numbers → (bytes : List ℕ) (count : ℕ) → length (listed starts numbers (key bytes)) ≤ count → FirstMiss (listed starts numbers (key bytes)) bytes count
+pub none_left : (starts numbers : List ℕ) → IsIndex starts numbers → (bytes : List ℕ) (count : ℕ)
+    → length (listed starts numbers (key bytes)) ≤ count → FirstMiss (listed starts numbers (key bytes)) bytes count
     → (n : ℕ) → n < length rows → Misses bytes n
 none_left starts numbers index bytes count le h =
-    index.whole bytes (λ n c. subst (Misses bytes) c.2 (subst (λ m. Misses bytes m) (get_or_default (listed starts numbers (key bytes)) c.0 0 n c.1) (h c.0 (omega (arith, c.1, le)))))
+    index.whole bytes (λ n c. subst (Misses bytes) c.2
+    (subst (λ m. Misses bytes m) (get_or_default (listed starts numbers (key bytes)) c.0 0 n c.1) (h c.0 (omega (arith, c.1, le)))))

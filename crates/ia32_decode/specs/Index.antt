@@ -25,5 +25,7 @@ pub record IsIndex (starts numbers : List ℕ) : Type 0 where
   pub keys : length starts ≡ 513
   pub order : (key : ℕ) → key < 512 → slice_index starts key ≤ slice_index starts (key + 1)
   pub ends : (key : ℕ) → key < 512 → slice_index starts (key + 1) ≤ length numbers
-  pub below : (key : ℕ) → key < 512 → (k : ℕ) → k < length (listed starts numbers key) → slice_index (listed starts numbers key) k < length rows
-  pub whole : (bytes : List ℕ) → ((number : ℕ) → Contains (listed starts numbers (key bytes)) number → Misses bytes number) → (number : ℕ) → number < length rows → Misses bytes number
+  pub below : (key : ℕ) → key < 512 → (k : ℕ) → k < length (listed starts numbers key)
+      → slice_index (listed starts numbers key) k < length rows
+  pub whole : (bytes : List ℕ) → ((number : ℕ) → Contains (listed starts numbers (key bytes)) number → Misses bytes number) → (number : ℕ)
+      → number < length rows → Misses bytes number

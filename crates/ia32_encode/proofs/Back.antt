@@ -85,7 +85,8 @@ register_back reg.Edi = refl
 
 -- ---- displacement and base, by the length of the displacement
 
-len_cases : (P : ℕ → Type 0) (s z f : Bool) → P 4 → (s ≡ false → z ≡ true → P 0) → (s ≡ false → f ≡ true → P 1) → P (cond s 4 (cond z 0 (cond f 1 4)))
+len_cases : (P : ℕ → Type 0) (s z f : Bool) → P 4 → (s ≡ false → z ≡ true → P 0) → (s ≡ false → f ≡ true → P 1)
+    → P (cond s 4 (cond z 0 (cond f 1 4)))
 len_cases P true z f four none one = four
 len_cases P false true f four none one = none refl refl
 len_cases P false false true four none one = one refl refl
@@ -99,8 +100,13 @@ pub record Placed (base : Option Reg) (disp len : ℕ) : Type 0 where
 
 placed_4 : (base : Option Reg) (disp : ℕ) → Placed base disp 4
 unfolding disp_at
-placed_4 None disp = record { mode = omega arith; base_is = refl; disp_is = λ more. ap (λ r. and_then r (λ d. success (d, 4))) (long_back disp more) }
-placed_4 (Some r) disp = record { mode = omega arith; base_is = ap (λ (t : Reg). Some t) (register_back r); disp_is = λ more. ap (λ r. and_then r (λ d. success (d, 4))) (long_back disp more) }
+placed_4 None disp =
+    record { mode = omega arith; base_is = refl; disp_is = λ more. ap (λ r. and_then r (λ d. success (d, 4))) (long_back disp more) }
+placed_4 (Some r) disp = record {
+  mode = omega arith;
+  base_is = ap (λ (t : Reg). Some t) (register_back r);
+  disp_is = λ more. ap (λ r. and_then r (λ d. success (d, 4))) (long_back disp more);
+}
 
 some_base : (r : Reg) → (number_of r == 5) ≡ false → base_of 0 (number_of r) ≡ Some r
 some_base reg.Eax e = refl
@@ -117,15 +123,24 @@ unfolding disp_at
 placed_0 None disp s z = absurd cc
 placed_0 (Some r) disp s z =
     let e = and_parts (disp == 0) (not (number_of r == 5)) z in
-    record { mode = omega arith; base_is = some_base r (not-true (number_of r == 5) e.1); disp_is = λ more. ap (λ k. read (k, 0) more) (sym (eqb-true disp 0 e.0)) }
+    record {
+      mode = omega arith;
+      base_is = some_base r (not-true (number_of r == 5) e.1);
+      disp_is = λ more. ap (λ k. read (k, 0) more) (sym (eqb-true disp 0 e.0));
+    }
 
 placed_1 : (base : Option Reg) (disp : ℕ) → is_none base ≡ false → is_signed_byte disp ≡ true → Placed base disp 1
 unfolding disp_at
 placed_1 None disp s f = absurd cc
-placed_1 (Some r) disp s f = record { mode = omega arith; base_is = ap (λ (t : Reg). Some t) (register_back r); disp_is = λ more. ap (λ k. read (k, 1) more) (eqb-true (sign_extended 32 size.Byte (disp % 256)) disp f) }
+placed_1 (Some r) disp s f = record {
+  mode = omega arith;
+  base_is = ap (λ (t : Reg). Some t) (register_back r);
+  disp_is = λ more. ap (λ k. read (k, 1) more) (eqb-true (sign_extended 32 size.Byte (disp % 256)) disp f);
+}
 
 placed : (wide : Bool) (a : Address) → Placed a.base a.disp (memory_len wide a)
-placed wide a = len_cases (Placed a.base a.disp) (wide || is_none a.base) (a.disp == 0 && not (base_number a.base == 5)) (is_signed_byte a.disp)
+placed wide a =
+    len_cases (Placed a.base a.disp) (wide || is_none a.base) (a.disp == 0 && not (base_number a.base == 5)) (is_signed_byte a.disp)
     (placed_4 a.base a.disp)
     (λ s z. placed_0 a.base a.disp (or_parts wide (is_none a.base) s).1 z)
     (λ s f. placed_1 a.base a.disp (or_parts wide (is_none a.base) s).1 f)
@@ -156,31 +171,39 @@ no_index (Some r) e = absurd cc
 
 -- whether an index and a scale can be spelled
 abbrev scaled : Option Reg → ℕ → Bool
-scaled index scale = cond (is_none index) (scale == 1) (not (index_number index == 4) && (scale == 1 || scale == 2 || scale == 4 || scale == 8))
+scaled index scale =
+    cond (is_none index) (scale == 1) (not (index_number index == 4) && (scale == 1 || scale == 2 || scale == 4 || scale == 8))
 
 one_scale : (index : Option Reg) (scale : ℕ) → index ≡ None → scaled index scale ≡ true → scale ≡ 1
 one_scale None scale e h = eqb-true scale 1 h
 one_scale (Some r) scale e h = absurd cc
 
 -- a SIB byte stands for base, index and scale
-sib_back : (mode : ℕ) (base index : Option Reg) (scale : ℕ) → base_of mode (base_number base) ≡ base → scaled index scale ≡ true → sib_of mode (modrm (scale_bits scale) (index_number index) (base_number base)) ≡ base_record base index scale
+sib_back : (mode : ℕ) (base index : Option Reg) (scale : ℕ) → base_of mode (base_number base) ≡ base → scaled index scale ≡ true
+    → sib_of mode (modrm (scale_bits scale) (index_number index) (base_number base)) ≡ base_record base index scale
 sib_back mode base None scale eb h =
     let one : scale ≡ 1 = eqb-true scale 1 h in
     let low = base_below base in
-    let i : modrm (scale_bits scale) 4 (base_number base) / 8 % 8 ≡ 4 = reg_back (scale_bits scale) 4 (base_number base) (omega arith) low in
-    let b : modrm (scale_bits scale) 4 (base_number base) % 8 ≡ base_number base = rm_back (scale_bits scale) 4 (base_number base) (omega arith) low in
+    let i : modrm (scale_bits scale) 4 (base_number base) / 8 % 8 ≡ 4 =
+    reg_back (scale_bits scale) 4 (base_number base) (omega arith) low in
+    let b : modrm (scale_bits scale) 4 (base_number base) % 8 ≡ base_number base =
+    rm_back (scale_bits scale) 4 (base_number base) (omega arith) low in
     rw (i, b, eb, one) refl
 sib_back mode base (Some r) scale eb h =
     let e = and_parts (not (number_of r == 4)) (scale == 1 || scale == 2 || scale == 4 || scale == 8) h in
     let s = scale_back scale e.1 in
     let low = base_below base in
-    let i : modrm (scale_bits scale) (number_of r) (base_number base) / 8 % 8 ≡ number_of r = reg_back (scale_bits scale) (number_of r) (base_number base) (number_below r) low in
-    let b : modrm (scale_bits scale) (number_of r) (base_number base) % 8 ≡ base_number base = rm_back (scale_bits scale) (number_of r) (base_number base) (number_below r) low in
-    let k : modrm (scale_bits scale) (number_of r) (base_number base) / 64 ≡ scale_bits scale = mod_back (scale_bits scale) (number_of r) (base_number base) (number_below r) low in
+    let i : modrm (scale_bits scale) (number_of r) (base_number base) / 8 % 8 ≡ number_of r =
+    reg_back (scale_bits scale) (number_of r) (base_number base) (number_below r) low in
+    let b : modrm (scale_bits scale) (number_of r) (base_number base) % 8 ≡ base_number base =
+    rm_back (scale_bits scale) (number_of r) (base_number base) (number_below r) low in
+    let k : modrm (scale_bits scale) (number_of r) (base_number base) / 64 ≡ scale_bits scale =
+    mod_back (scale_bits scale) (number_of r) (base_number base) (number_below r) low in
     rw (i, b, eb, register_back r, not-true (number_of r == 4) e.0, k, s.1) refl
 
 -- with no SIB byte
-plain_base : (m mode : ℕ) (a : Address) → mod_of m ≡ mode → rm_of m ≡ base_number a.base → base_of mode (base_number a.base) ≡ a.base → is_some a.index ≡ false → (base_number a.base == 4) ≡ false → address_fits a ≡ true
+plain_base : (m mode : ℕ) (a : Address) → mod_of m ≡ mode → rm_of m ≡ base_number a.base → base_of mode (base_number a.base) ≡ a.base
+    → is_some a.index ≡ false → (base_number a.base == 4) ≡ false → address_fits a ≡ true
     → (more : List ℕ) → base_at m more ≡ read (base_record a.base a.index a.scale) more
 unfolding base_at
 plain_base m mode a em er eb ei e4 fit more =
@@ -190,13 +213,16 @@ plain_base m mode a em er eb ei e4 fit more =
 
 -- with a SIB byte
 sib_base : (m mode : ℕ) (a : Address) → mod_of m ≡ mode → rm_of m ≡ 4 → base_of mode (base_number a.base) ≡ a.base → address_fits a ≡ true
-    → (more : List ℕ) → base_at m (modrm (scale_bits a.scale) (index_number a.index) (base_number a.base) ∷ more) ≡ read (base_record a.base a.index a.scale) more
+    → (more : List ℕ) → base_at m (modrm (scale_bits a.scale) (index_number a.index) (base_number a.base) ∷ more) ≡ read
+    (base_record a.base a.index a.scale) more
 unfolding base_at
 sib_base m mode a em er eb fit more =
     rw (er, em) (ap (λ b. read b more) (sib_back mode a.base a.index a.scale eb fit))
 
 -- a memory operand after its ModRM byte
-memory_then : (m : ℕ) (bytes mid more : List ℕ) (a : Address) (len mode : ℕ) → mod_of m ≡ mode → base_at m bytes ≡ read (base_record a.base a.index a.scale) mid → disp_at (cond (is_none a.base) 2 mode) mid ≡ read (a.disp, len) more → memory_at m bytes ≡ read (operand.Memory a, len) more
+memory_then : (m : ℕ) (bytes mid more : List ℕ) (a : Address) (len mode : ℕ) → mod_of m ≡ mode
+    → base_at m bytes ≡ read (base_record a.base a.index a.scale) mid → disp_at (cond (is_none a.base) 2 mode) mid ≡ read (a.disp, len) more
+    → memory_at m bytes ≡ read (operand.Memory a, len) more
 unfolding memory_at
 memory_then m bytes mid more a len mode em eb ed = rw (eb, em, ed) refl
 
@@ -216,8 +242,11 @@ memory_place place.Either mode lt h = refl
 memory_place place.Memory mode lt h = grind (arith, nat_tests)
 memory_place place.Register mode lt h = absurd cc
 
-memory_back : (wide : Bool) (reg : ℕ) (a : Address) → reg < 8 → address_fits a ≡ true → (sib : Bool) → has_sib a ≡ sib → ReadBack reg (operand.Memory a) (memory_len wide a)
-    (cond sib (modrm (mode_for a.base (memory_len wide a)) reg 4 ∷ modrm (scale_bits a.scale) (index_number a.index) (base_number a.base) ∷ disp_bytes (memory_len wide a) a.disp) (modrm (mode_for a.base (memory_len wide a)) reg (base_number a.base) ∷ disp_bytes (memory_len wide a) a.disp))
+memory_back : (wide : Bool) (reg : ℕ) (a : Address) → reg < 8 → address_fits a ≡ true → (sib : Bool) → has_sib a ≡ sib
+    → ReadBack reg (operand.Memory a) (memory_len wide a)
+    (cond sib (modrm (mode_for a.base (memory_len wide a)) reg 4 ∷ modrm (scale_bits a.scale) (index_number a.index)
+    (base_number a.base) ∷ disp_bytes (memory_len wide a) a.disp) (modrm (mode_for a.base (memory_len wide a)) reg
+    (base_number a.base) ∷ disp_bytes (memory_len wide a) a.disp))
 unfolding rm_at
 memory_back wide reg a small fit true h =
     let len = memory_len wide a in
@@ -232,7 +261,8 @@ memory_back wide reg a small fit true h =
       reg_is = reg_back mode reg 4 small (omega arith);
       mode_is = λ place f. rw em (memory_place place mode p.mode (and_parts (address_fits a) (has_place place 0) f).1);
       rm_is = λ more. rw (mode_not_3 m mode em p.mode)
-          (memory_then m _ (disp_bytes len a.disp ++ more) more a len mode em (sib_base m mode a em (rm_back mode reg 4 small (omega arith)) p.base_is fit (disp_bytes len a.disp ++ more)) (p.disp_is more));
+          (memory_then m _ (disp_bytes len a.disp ++ more) more a len mode em
+          (sib_base m mode a em (rm_back mode reg 4 small (omega arith)) p.base_is fit (disp_bytes len a.disp ++ more)) (p.disp_is more));
     }
 memory_back wide reg a small fit false h =
     let len = memory_len wide a in
@@ -249,15 +279,19 @@ memory_back wide reg a small fit false h =
       reg_is = reg_back mode reg (base_number a.base) small low;
       mode_is = λ place f. rw em (memory_place place mode p.mode (and_parts (address_fits a) (has_place place 0) f).1);
       rm_is = λ more. rw (mode_not_3 m mode em p.mode)
-          (memory_then m _ (disp_bytes len a.disp ++ more) more a len mode em (plain_base m mode a em (rm_back mode reg (base_number a.base) small low) p.base_is s.0 s.1 fit (disp_bytes len a.disp ++ more)) (p.disp_is more));
+          (memory_then m _ (disp_bytes len a.disp ++ more) more a len mode em
+          (plain_base m mode a em (rm_back mode reg (base_number a.base) small low) p.base_is s.0 s.1 fit (disp_bytes len a.disp ++ more))
+          (p.disp_is more));
     }
 
-modrm_back : (wide : Bool) (reg : ℕ) (place : RmForm) (rm : Operand) → reg < 8 → rm_fits place rm ≡ true → ReadBack reg rm (disp_len_of wide rm) (modrm_bytes reg (disp_len_of wide rm) rm)
+modrm_back : (wide : Bool) (reg : ℕ) (place : RmForm) (rm : Operand) → reg < 8 → rm_fits place rm ≡ true
+    → ReadBack reg rm (disp_len_of wide rm) (modrm_bytes reg (disp_len_of wide rm) rm)
 unfolding rm_at
 modrm_back wide reg place operand.Absent small fit = absurd cc
 modrm_back wide reg place (operand.Segment s) small fit = absurd cc
 modrm_back wide reg place (operand.Control n) small fit = absurd cc
-modrm_back wide reg place (operand.Memory a) small fit = memory_back wide reg a small (and_parts (address_fits a) (has_place place 0) fit).0 (has_sib a) refl
+modrm_back wide reg place (operand.Memory a) small fit =
+    memory_back wide reg a small (and_parts (address_fits a) (has_place place 0) fit).0 (has_sib a) refl
 modrm_back wide reg place (operand.Register n) small fit =
     let lt : n < 8 = ltb-true n 8 (and_parts (nat_lt n 8) (has_place place 3) fit).0 in
     let em : mod_of (modrm 3 reg n) ≡ 3 = mod_back 3 reg n small lt in
@@ -275,14 +309,18 @@ modrm_back wide reg place (operand.Register n) small fit =
 located_is : (reg len : ℕ) (rm : Operand) → Located
 located_is reg len rm = record { reg = reg; rm = rm; disp_len = len }
 
-offset_is : (rm : Operand) → is_offset rm ≡ true → rm ≡ operand.Memory (record { base = None; index = None; scale = 1; disp = offset_of rm })
+offset_is : (rm : Operand) → is_offset rm ≡ true
+    → rm ≡ operand.Memory (record { base = None; index = None; scale = 1; disp = offset_of rm })
 offset_is operand.Absent e = absurd cc
 offset_is (operand.Register n) e = absurd cc
 offset_is (operand.Segment s) e = absurd cc
 offset_is (operand.Control n) e = absurd cc
 offset_is (operand.Memory a) e = offset_address a.base a.index a.scale a.disp e where
-  offset_address : (base index : Option Reg) (scale disp : ℕ) → (is_none base && is_none index && scale == 1) ≡ true → operand.Memory (record { base = base; index = index; scale = scale; disp = disp }) ≡ operand.Memory (record { base = None; index = None; scale = 1; disp = disp })
-  offset_address None None scale disp e = ap (λ k. operand.Memory (record { base = None; index = None; scale = k; disp = disp })) (eqb-true scale 1 e)
+  offset_address : (base index : Option Reg) (scale disp : ℕ) → (is_none base && is_none index && scale == 1) ≡ true
+      → operand.Memory (record { base = base; index = index; scale = scale; disp = disp }) ≡ operand.Memory
+      (record { base = None; index = None; scale = 1; disp = disp })
+  offset_address None None scale disp e =
+      ap (λ k. operand.Memory (record { base = None; index = None; scale = k; disp = disp })) (eqb-true scale 1 e)
   offset_address None (Some r) scale disp e = absurd cc
   offset_address (Some r) index scale disp e = absurd cc
 
@@ -312,7 +350,8 @@ and_right true b c e = e
 and_right false b c e = e
 
 -- each addressing reads its bytes back
-addressing_back : (wide : Bool) (kind : Addressing) (p : Parts) → addressing_fits kind p.reg p.rm ≡ true → p.disp_len ≡ disp_len_of wide p.rm → (more : List ℕ)
+addressing_back : (wide : Bool) (kind : Addressing) (p : Parts) → addressing_fits kind p.reg p.rm ≡ true
+    → p.disp_len ≡ disp_len_of wide p.rm → (more : List ℕ)
     → addressing_at kind (addressing_bytes kind p ++ more) ≡ read (located_is p.reg p.disp_len p.rm) more
 unfolding addressing_at located_is
 addressing_back wide addressing.Nothing p fit len more =
@@ -324,10 +363,12 @@ addressing_back wide addressing.Offset p fit len more =
     let e = and_parts (p.reg == 0) (is_offset p.rm) fit in
     let plain = offset_is p.rm e.1 in
     let four : p.disp_len ≡ 4 = len ∙ ap (disp_len_of wide) plain ∙ four_bytes wide (offset_of p.rm) in
-    ap (λ r. and_then r (λ d. success (located_is 0 4 (operand.Memory (record { base = None; index = None; scale = 1; disp = d }))))) (long_back (offset_of p.rm) more)
+    ap (λ r. and_then r (λ d. success (located_is 0 4 (operand.Memory (record { base = None; index = None; scale = 1; disp = d })))))
+    (long_back (offset_of p.rm) more)
     ∙ ap (λ l. read l more) (located_eq 0 p.reg 4 p.disp_len _ p.rm (sym (eqb-true p.reg 0 e.0)) (sym four) (sym plain))
 addressing_back wide (addressing.Modrm form) p fit len more =
-    let e = and_parts (nat_lt p.reg 8) (has_slash form.slash p.reg && rm_fits form.place p.rm) (and_right (nat_lt p.reg 8) (has_slash form.slash p.reg) (rm_fits form.place p.rm) fit) in
+    let e = and_parts (nat_lt p.reg 8) (has_slash form.slash p.reg && rm_fits form.place p.rm)
+    (and_right (nat_lt p.reg 8) (has_slash form.slash p.reg) (rm_fits form.place p.rm) fit) in
     let f = and_parts (has_slash form.slash p.reg) (rm_fits form.place p.rm) e.1 in
     let b = modrm_back wide p.reg form.place p.rm (ltb-true p.reg 8 e.0) f.1 in
     let slash : has_slash form.slash (reg_of b.m) ≡ true = ap (has_slash form.slash) b.reg_is ∙ f.0 in
@@ -339,10 +380,13 @@ addressing_back wide (addressing.Modrm form) p fit len more =
     ∙ ap (λ l. read l more) (located_eq (reg_of b.m) p.reg (disp_len_of wide p.rm) p.disp_len p.rm p.rm b.reg_is (sym len) refl)
 
 -- each immediate reads its bytes back
-immediate_back : (kind : Immediate) (p : Parts) → immediate_fits kind p.imm p.sel ≡ true → (more : List ℕ) → immediate_at kind (immediate_bytes kind p ++ more) ≡ both_read p.imm p.sel more
+immediate_back : (kind : Immediate) (p : Parts) → immediate_fits kind p.imm p.sel ≡ true → (more : List ℕ)
+    → immediate_at kind (immediate_bytes kind p ++ more) ≡ both_read p.imm p.sel more
 unfolding immediate_at
-immediate_back immediate.Nothing p fit more = let e = and_parts (p.imm == 0) (p.sel == 0) fit in number_eq 0 p.imm p.sel (sym (eqb-true p.imm 0 e.0)) e.1 more
-immediate_back immediate.One p fit more = let e = and_parts (p.imm == 1) (p.sel == 0) fit in number_eq 1 p.imm p.sel (sym (eqb-true p.imm 1 e.0)) e.1 more
+immediate_back immediate.Nothing p fit more = let e =
+    and_parts (p.imm == 0) (p.sel == 0) fit in number_eq 0 p.imm p.sel (sym (eqb-true p.imm 0 e.0)) e.1 more
+immediate_back immediate.One p fit more = let e =
+    and_parts (p.imm == 1) (p.sel == 0) fit in number_eq 1 p.imm p.sel (sym (eqb-true p.imm 1 e.0)) e.1 more
 immediate_back immediate.Byte p fit more =
     let e = and_parts (nat_lt p.imm 256) (p.sel == 0) fit in
     let lt = ltb-true p.imm 256 e.0 in
@@ -350,7 +394,8 @@ immediate_back immediate.Byte p fit more =
     number_eq (p.imm % 256) p.imm p.sel same e.1 more
 immediate_back immediate.SignedByte p fit more =
     let e = and_parts (is_signed_byte p.imm) (p.sel == 0) fit in
-    number_eq (sign_extended 32 size.Byte (p.imm % 256)) p.imm p.sel (eqb-true (sign_extended 32 size.Byte (p.imm % 256)) p.imm e.0) e.1 more
+    number_eq (sign_extended 32 size.Byte (p.imm % 256)) p.imm p.sel
+    (eqb-true (sign_extended 32 size.Byte (p.imm % 256)) p.imm e.0) e.1 more
 immediate_back immediate.Word p fit more =
     let e = and_parts (nat_lt p.imm 65536) (p.sel == 0) fit in
     let lt = ltb-true p.imm 65536 e.0 in
@@ -376,15 +421,22 @@ coded_back : (wide : Bool) (form : Form) (p : Parts) → form_fits form p ≡ tr
     → coded_at form (p.code ∷ (addressing_bytes form.addressing p ++ (immediate_bytes form.immediate p ++ more))) ≡ read p more
 unfolding coded_at form_fits located_is
 coded_back wide form p fit len more =
-    let s = and_parts (has_code form p.code && addressing_fits form.addressing p.reg p.rm) (immediate_fits form.immediate p.imm p.sel) fit in
+    let s =
+    and_parts (has_code form p.code && addressing_fits form.addressing p.reg p.rm) (immediate_fits form.immediate p.imm p.sel) fit in
     let t = and_parts (has_code form p.code) (addressing_fits form.addressing p.reg p.rm) s.0 in
-    rw (t.0, addressing_back wide form.addressing p t.1 len (immediate_bytes form.immediate p ++ more), immediate_back form.immediate p s.1 more) refl
+    rw (
+      t.0,
+      addressing_back wide form.addressing p t.1 len (immediate_bytes form.immediate p ++ more),
+      immediate_back form.immediate p s.1 more,
+    ) refl
 
 -- The bytes of the parts are read back as these parts, whatever follows.
-pub form_back : (wide : Bool) (form : Form) (p : Parts) → form_fits form p ≡ true → p.disp_len ≡ disp_len_of wide p.rm → (more : List ℕ) → parts_at form (form_bytes form p ++ more) ≡ read p more
+pub form_back : (wide : Bool) (form : Form) (p : Parts) → form_fits form p ≡ true → p.disp_len ≡ disp_len_of wide p.rm → (more : List ℕ)
+    → parts_at form (form_bytes form p ++ more) ≡ read p more
 unfolding parts_at
 form_back wide form p fit len more =
     let tail = addressing_bytes form.addressing p ++ (immediate_bytes form.immediate p ++ more) in
     let l = lead_back form.lead (p.code ∷ tail) in
     let split : form_bytes form p ++ more ≡ lead_bytes form.lead ++ (p.code ∷ tail) = simp append_assoc in
-    ap (λ bs. and_then (lead_at form.lead bs) (λ _. coded_at form)) split ∙ ap (λ r. and_then r (λ _. coded_at form)) l.1 ∙ coded_back wide form p fit len more
+    ap (λ bs. and_then (lead_at form.lead bs) (λ _. coded_at form)) split ∙ ap (λ r. and_then r (λ _. coded_at form)) l.1
+    ∙ coded_back wide form p fit len more

@@ -34,22 +34,26 @@ cannot : (b : Bool) → not b ≡ true → b ≡ true → ⊥
 cannot true h e = cc
 cannot false h e = cc
 
-passed_by : (can : Row → Bool) (w : Wide) (i : Insn) → Needs can w i → (before after : List Row) → none_can can before ≡ true → chosen_from (before ++ after) w i ≡ chosen_from after w i
+passed_by : (can : Row → Bool) (w : Wide) (i : Insn) → Needs can w i → (before after : List Row) → none_can can before ≡ true
+    → chosen_from (before ++ after) w i ≡ chosen_from after w i
 unfolding chosen_from
 passed_by can w i needs [] after h = refl
 passed_by can w i needs (r ∷ before) after h =
     let e = and_parts (not (can r)) (none_can can before) h in
     rw (fails r w i (λ s. cannot (can r) e.0 (needs r s))) (passed_by can w i needs before after e.1)
 
-suited_first : (r : Row) (after : List Row) (w : Wide) (i : Insn) → Suits r w i → chosen_from (r ∷ after) w i ≡ Some (laid_out r.form (parts_for r w.disp i))
+suited_first : (r : Row) (after : List Row) (w : Wide) (i : Insn) → Suits r w i
+    → chosen_from (r ∷ after) w i ≡ Some (laid_out r.form (parts_for r w.disp i))
 unfolding chosen_from
 suited_first r after w i s = rw (suits_true r w i s) refl
 
 -- what is chosen is by the first row that can suit, if it does
-pub first_of : (can : Row → Bool) (w : Wide) (i : Insn) → Needs can w i → (before after : List Row) (r : Row) → rows ≡ before ++ r ∷ after → none_can can before ≡ true → Suits r w i
+pub first_of : (can : Row → Bool) (w : Wide) (i : Insn) → Needs can w i → (before after : List Row) (r : Row) → rows ≡ before ++ r ∷ after
+    → none_can can before ≡ true → Suits r w i
     → chosen w i ≡ Some (laid_out r.form (parts_for r w.disp i))
 unfolding chosen
-first_of can w i needs before after r e h s = ap (λ (t : List Row). chosen_from t w i) e ∙ passed_by can w i needs before (r ∷ after) h ∙ suited_first r after w i s
+first_of can w i needs before after r e h s =
+    ap (λ (t : List Row). chosen_from t w i) e ∙ passed_by can w i needs before (r ∷ after) h ∙ suited_first r after w i s
 
 none_from : (w : Wide) (i : Insn) → chosen_from [] w i ≡ None
 unfolding chosen_from
@@ -57,7 +61,8 @@ none_from w i = refl
 
 pub none_of : (can : Row → Bool) (w : Wide) (i : Insn) → Needs can w i → none_can can rows ≡ true → chosen w i ≡ None
 unfolding chosen
-none_of can w i needs h = ap (λ (t : List Row). chosen_from t w i) (sym (append-nil rows)) ∙ passed_by can w i needs rows [] h ∙ none_from w i
+none_of can w i needs h =
+    ap (λ (t : List Row). chosen_from t w i) (sym (append-nil rows)) ∙ passed_by can w i needs rows [] h ∙ none_from w i
 
 -- rows of this instruction and size
 abbrev pub is_of : Op → Size → Row → Bool
@@ -65,7 +70,8 @@ is_of o s r = same_op r.op o && same_size r.size s
 
 pub needs_same : (w : Wide) (i : Insn) → Needs (is_of i.op i.size) w i
 unfolding insn_of
-needs_same w i r s = both_true (true_same the_type r.op i.op (ap (λ (j : Insn). j.op) s.means)) (eq-eqb (width r.size) (width i.size) (ap (λ (j : Insn). width j.size) s.means))
+needs_same w i r s = both_true (true_same the_type r.op i.op (ap (λ (j : Insn). j.op) s.means))
+    (eq-eqb (width r.size) (width i.size) (ap (λ (j : Insn). width j.size) s.means))
 
 pub code_itself : (n : ℕ) → (nat_le n n && nat_le n n) ≡ true
 code_itself n = grind (arith, nat_tests)

@@ -144,7 +144,8 @@ register_itself None = refl
 register_itself (Some r) = number_itself (number_of r)
 
 address_itself : (x : Address) → same_address x x ≡ true
-address_itself x = both_true (both_true (both_true (register_itself x.base) (register_itself x.index)) (number_itself x.scale)) (number_itself x.disp)
+address_itself x =
+    both_true (both_true (both_true (register_itself x.base) (register_itself x.index)) (number_itself x.scale)) (number_itself x.disp)
 
 operand_itself : (x : Operand) → same_operand x x ≡ true
 operand_itself operand.Absent = refl
@@ -160,7 +161,10 @@ flag_itself false = refl
 insn_itself : (i : Insn) → same_insn i i ≡ true
 unfolding same_insn
 insn_itself i =
-    both_true (both_true (both_true (both_true (both_true (both_true (true_same the_type i.op i.op refl) (number_itself (width i.size))) (operand_itself i.a)) (operand_itself i.b)) (number_itself i.imm)) (number_itself i.sel)) (flag_itself i.rep)
+    both_true
+    (both_true
+    (both_true (both_true (both_true (both_true (true_same the_type i.op i.op refl) (number_itself (width i.size))) (operand_itself i.a))
+    (operand_itself i.b)) (number_itself i.imm)) (number_itself i.sel)) (flag_itself i.rep)
 
 abbrev made_insn : Op → Size → Operand → Operand → ℕ → ℕ → Bool → Insn
 made_insn o s a b n t r = record { op = o; size = s; a = a; b = b; imm = n; sel = t; rep = r }
@@ -168,8 +172,10 @@ made_insn o s a b n t r = record { op = o; size = s; a = a; b = b; imm = n; sel 
 insns_same : (i j : Insn) → same_insn i j ≡ true → i ≡ j
 unfolding same_insn
 insns_same i j h =
-    let f = and_parts (same_op i.op j.op && same_size i.size j.size && same_operand i.a j.a && same_operand i.b j.b && i.imm == j.imm && i.sel == j.sel) (beq i.rep j.rep) h in
-    let s = and_parts (same_op i.op j.op && same_size i.size j.size && same_operand i.a j.a && same_operand i.b j.b && i.imm == j.imm) (i.sel == j.sel) f.0 in
+    let f = and_parts (same_op i.op j.op && same_size i.size j.size && same_operand i.a j.a && same_operand i.b j.b && i.imm == j.imm
+    && i.sel == j.sel) (beq i.rep j.rep) h in
+    let s = and_parts (same_op i.op j.op && same_size i.size j.size && same_operand i.a j.a && same_operand i.b j.b && i.imm == j.imm)
+    (i.sel == j.sel) f.0 in
     let n = and_parts (same_op i.op j.op && same_size i.size j.size && same_operand i.a j.a && same_operand i.b j.b) (i.imm == j.imm) s.0 in
     let b = and_parts (same_op i.op j.op && same_size i.size j.size && same_operand i.a j.a) (same_operand i.b j.b) n.0 in
     let a = and_parts (same_op i.op j.op && same_size i.size j.size) (same_operand i.a j.a) b.0 in
@@ -194,7 +200,8 @@ suits_true row wide insn s = both_true (both_true (ap (λ i. same_insn i insn) s
 pub true_suits : (row : Row) (wide : Wide) (insn : Insn) → does_suit row wide insn ≡ true → Suits row wide insn
 true_suits row wide insn h =
     let p = parts_for row wide.disp insn in
-    let w = and_parts (same_insn (insn_of row p) insn && form_fits row.form p) (widths_fit wide p.disp_len (imm_len row.form.immediate)) h in
+    let w =
+    and_parts (same_insn (insn_of row p) insn && form_fits row.form p) (widths_fit wide p.disp_len (imm_len row.form.immediate)) h in
     let f = and_parts (same_insn (insn_of row p) insn) (form_fits row.form p) w.0 in
     record { means = insns_same (insn_of row p) insn f.0; fits = f.1; widths = w.1 }
 
@@ -210,11 +217,13 @@ from_first (row ∷ table) wide insn zero d h s fail = rw (suits_true row wide i
 from_first (row ∷ table) wide insn (suc i) d h s fail =
     rw (fails row wide insn (fail 0 (omega arith))) (from_first table wide insn i d (omega arith) s (λ k lt. fail (suc k) (omega arith)))
 
-from_none : (table : List Row) (wide : Wide) (insn : Insn) → ((row : Row) → Contains table row → Suits row wide insn → ⊥) → chosen_from table wide insn ≡ None
+from_none : (table : List Row) (wide : Wide) (insn : Insn) → ((row : Row) → Contains table row → Suits row wide insn → ⊥)
+    → chosen_from table wide insn ≡ None
 unfolding chosen_from
 from_none [] wide insn fail = refl
 from_none (row ∷ table) wide insn fail =
-    rw (fails row wide insn (fail row (0, omega arith, refl))) (from_none table wide insn (λ r c. fail r (suc c.0, omega (arith, c.1), c.2)))
+    rw (fails row wide insn (fail row (0, omega arith, refl)))
+    (from_none table wide insn (λ r c. fail r (suc c.0, omega (arith, c.1), c.2)))
 
 -- What is chosen is the answer of the function.
 pub chosen_is : (wide : Wide) (insn : Insn) (a : ArrayBytes) → IsChosen wide insn a → chosen wide insn ≡ Some a
@@ -261,12 +270,14 @@ absent_none wide (operand.Register r) h e = cc
 absent_none wide (operand.Segment r) h e = cc
 absent_none wide (operand.Control r) h e = cc
 
-addressing_four : (kind : Addressing) (p : Parts) (wide : Bool) → addressing_fits kind p.reg p.rm ≡ true → p.disp_len ≡ disp_len_of wide p.rm → p.disp_len ≡ 4 → 4 ≤ length (addressing_bytes kind p)
+addressing_four : (kind : Addressing) (p : Parts) (wide : Bool) → addressing_fits kind p.reg p.rm ≡ true
+    → p.disp_len ≡ disp_len_of wide p.rm → p.disp_len ≡ 4 → 4 ≤ length (addressing_bytes kind p)
 addressing_four addressing.Nothing p wide h e f = absurd (absent_none wide p.rm (and_parts (p.reg == 0) (is_absent p.rm) h).1 (sym e ∙ f))
 addressing_four addressing.Offset p wide h e f = omega arith
 addressing_four (addressing.Modrm form) p wide h e f = rm_four wide p.reg p.disp_len p.rm e f
 
-form_four : (form : Form) (p : Parts) (wide : Bool) → form_fits form p ≡ true → p.disp_len ≡ disp_len_of wide p.rm → p.disp_len ≡ 4 → 4 ≤ length (head_bytes form p)
+form_four : (form : Form) (p : Parts) (wide : Bool) → form_fits form p ≡ true → p.disp_len ≡ disp_len_of wide p.rm → p.disp_len ≡ 4
+    → 4 ≤ length (head_bytes form p)
 unfolding form_fits
 form_four form p wide h e f =
     let a = and_parts (has_code form p.code && addressing_fits form.addressing p.reg p.rm) (immediate_fits form.immediate p.imm p.sel) h in
@@ -281,7 +292,8 @@ imm_at : (len head : ℕ) → len ≡ 4 → (if len == 0 then 0 else head) ≡ h
 imm_at len head e = rw e refl
 
 -- the fields of what is laid out
-laid_placed : (form : Form) (p : Parts) (wide : Wide) (w : Bool) → form_fits form p ≡ true → p.disp_len ≡ disp_len_of w p.rm → (IsTrue wide.disp → p.disp_len ≡ 4) → (IsTrue wide.imm → imm_len form.immediate ≡ 4)
+laid_placed : (form : Form) (p : Parts) (wide : Wide) (w : Bool) → form_fits form p ≡ true → p.disp_len ≡ disp_len_of w p.rm
+    → (IsTrue wide.disp → p.disp_len ≡ 4) → (IsTrue wide.imm → imm_len form.immediate ≡ 4)
     → 1 ≤ (laid_out form p).len → (laid_out form p).len ≤ 11 → IsPlaced wide (laid_out form p)
 laid_placed form p wide w h e disp imm some most =
     let both_lengths = length-append (head_bytes form p) (immediate_bytes form.immediate p) in
@@ -291,7 +303,12 @@ laid_placed form p wide w h e disp imm some most =
       most = most;
       disp = λ d. omega (arith, both_lengths, form_four form p w h e (disp d), place_at p.disp_len (length (head_bytes form p)) (disp d));
       imm = λ i. omega (arith, both_lengths, imms, imm i, imm_at (imm_len form.immediate) (length (head_bytes form p)) (imm i));
-      order = λ d i. omega (arith, form_four form p w h e (disp d), place_at p.disp_len (length (head_bytes form p)) (disp d), imm_at (imm_len form.immediate) (length (head_bytes form p)) (imm i));
+      order = λ d i. omega (
+        arith,
+        form_four form p w h e (disp d),
+        place_at p.disp_len (length (head_bytes form p)) (disp d),
+        imm_at (imm_len form.immediate) (length (head_bytes form p)) (imm i),
+      );
     }
 
 -- What is chosen has one to eleven bytes, with the fields among them.
@@ -306,5 +323,6 @@ chosen_placed wide insn a c fit =
     let len : (laid_out c.row.form p).len ≡ a.len = ap (λ (t : ArrayBytes). t.len) (sym c.text) in
     let w = and_parts (not wide.disp || p.disp_len == 4) (not wide.imm || imm_len c.row.form.immediate == 4) c.suits.widths in
     subst (IsPlaced wide) (sym c.text)
-    (laid_placed c.row.form p wide wide.disp c.suits.fits (parts_len c.row wide.disp insn) (width_of wide.disp p.disp_len w.0) (width_of wide.imm (imm_len c.row.form.immediate) w.1)
+    (laid_placed c.row.form p wide wide.disp c.suits.fits (parts_len c.row wide.disp insn) (width_of wide.disp p.disp_len w.0)
+    (width_of wide.imm (imm_len c.row.form.immediate) w.1)
     (omega (arith, some, n, len)) (omega (arith, most, n, len)))

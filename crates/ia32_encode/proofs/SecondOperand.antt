@@ -65,7 +65,8 @@ short_is_first (suc (suc (suc (suc (suc (suc zero)))))) lt = refl
 short_is_first (suc (suc (suc (suc (suc (suc (suc zero))))))) lt = refl
 short_is_first (suc (suc (suc (suc (suc (suc (suc (suc n)))))))) lt = absurd (omega arith)
 
-short_suits : (w : Bool) (k imm : ℕ) (o : Op) (a : Operand) → k < 8 → rm_fits place.Either a ≡ true → is_signed_byte imm ≡ true → (not w || disp_len_of w a == 4) ≡ true
+short_suits : (w : Bool) (k imm : ℕ) (o : Op) (a : Operand) → k < 8 → rm_fits place.Either a ≡ true → is_signed_byte imm ≡ true
+    → (not w || disp_len_of w a == 4) ≡ true
     → Suits (short_row k o) (with_displacement w) (with_number o a imm)
 unfolding parts_for form_fits insn_of
 short_suits w k imm o a lt fit short four = record {
@@ -74,23 +75,29 @@ short_suits w k imm o a lt fit short four = record {
   widths = both_true four refl;
 }
 
-short_is_chosen : (w : Bool) (k imm : ℕ) (a : Operand) → k < 8 → rm_fits place.Either a ≡ true → is_signed_byte imm ≡ true → (not w || disp_len_of w a == 4) ≡ true
-    → chosen (with_displacement w) (with_number (arithmetic k) a imm) ≡ Some (laid_out (short_row k (arithmetic k)).form (parts_for (short_row k (arithmetic k)) w (with_number (arithmetic k) a imm)))
+short_is_chosen : (w : Bool) (k imm : ℕ) (a : Operand) → k < 8 → rm_fits place.Either a ≡ true → is_signed_byte imm ≡ true
+    → (not w || disp_len_of w a == 4) ≡ true
+    → chosen (with_displacement w) (with_number (arithmetic k) a imm) ≡ Some
+    (laid_out (short_row k (arithmetic k)).form (parts_for (short_row k (arithmetic k)) w (with_number (arithmetic k) a imm)))
 short_is_chosen w k imm a lt fit short four =
     let i = with_number (arithmetic k) a imm in
-    first_of (is_of (arithmetic k) Long) (with_displacement w) i (needs_same (with_displacement w) i) (take (9 * k) rows) (drop (9 * k + 1) rows) (short_row k (arithmetic k))
+    first_of (is_of (arithmetic k) Long) (with_displacement w) i (needs_same (with_displacement w) i) (take (9 * k) rows)
+    (drop (9 * k + 1) rows) (short_row k (arithmetic k))
     (short_at k lt) (short_is_first k lt) (short_suits w k imm (arithmetic k) a lt fit short four)
 
 modrm_is : (n m : ℕ) → modrm 3 n m ≡ 0xc0 + 8 * n + m
 modrm_is n m = omega arith
 
-laid_register : (k n imm : ℕ) (o : Op) → Begins (0x83 ∷ (0xc0 + 8 * k + n) ∷ (imm % 256) ∷ []) 3 (Some (laid_out (short_row k o).form (parts_for (short_row k o) false (with_number o (Register n) imm))))
+laid_register : (k n imm : ℕ) (o : Op) → Begins (0x83 ∷ (0xc0 + 8 * k + n) ∷ (imm % 256) ∷ []) 3
+    (Some (laid_out (short_row k o).form (parts_for (short_row k o) false (with_number o (Register n) imm))))
 unfolding parts_for
 laid_register k n imm o = (ap (λ (x : ℕ). 0x83 ∷ x ∷ imm % 256 ∷ []) (modrm_is k n), refl)
 
-pub short_number : (k n imm : ℕ) → k < 8 → n < 8 → is_signed_byte imm ≡ true → Begins (0x83 ∷ (0xc0 + 8 * k + n) ∷ (imm % 256) ∷ []) 3 (chosen plain (with_number (arithmetic k) (Register n) imm))
+pub short_number : (k n imm : ℕ) → k < 8 → n < 8 → is_signed_byte imm ≡ true → Begins (0x83 ∷ (0xc0 + 8 * k + n) ∷ (imm % 256) ∷ []) 3
+    (chosen plain (with_number (arithmetic k) (Register n) imm))
 short_number k n imm lt small short =
-    subst (Begins (0x83 ∷ (0xc0 + 8 * k + n) ∷ (imm % 256) ∷ []) 3) (sym (short_is_chosen false k imm (Register n) lt (both_true (lt-ltb n 8 small) refl) short refl))
+    subst (Begins (0x83 ∷ (0xc0 + 8 * k + n) ∷ (imm % 256) ∷ []) 3)
+    (sym (short_is_chosen false k imm (Register n) lt (both_true (lt-ltb n 8 small) refl) short refl))
     (laid_register k n imm (arithmetic k))
 
 four_or_not : (w : Bool) (a : Address) → (not w || memory_len w a == 4) ≡ true
@@ -126,7 +133,8 @@ laid_by_digit w k imm o a m =
     record {
       modrm = m.first;
       rest = m.rest;
-      spelled = take_at bytes (replicate (16 - length bytes) 0) (length bytes) refl ∙ ap (λ (t : List ℕ). 0x83 ∷ (t ++ imm % 256 ∷ [])) m.are;
+      spelled =
+          take_at bytes (replicate (16 - length bytes) 0) (length bytes) refl ∙ ap (λ (t : List ℕ). 0x83 ∷ (t ++ imm % 256 ∷ [])) m.are;
       reg = m.reg;
     }
 
@@ -150,7 +158,8 @@ no_word_row (suc (suc (suc (suc (suc (suc (suc n))))))) = refl
 
 pub no_words : (wide : Wide) (k : ℕ) (insn : Insn) → insn.op ≡ arithmetic k → insn.size ≡ Word → chosen wide insn ≡ None
 no_words w k i e f =
-    none_of (is_of i.op i.size) w i (needs_same w i) (ap (λ (o : Op). none_can (is_of o i.size) rows) e ∙ ap (λ (s : Size). none_can (is_of (arithmetic k) s) rows) f ∙ no_word_row k)
+    none_of (is_of i.op i.size) w i (needs_same w i)
+    (ap (λ (o : Op). none_can (is_of o i.size) rows) e ∙ ap (λ (s : Size). none_can (is_of (arithmetic k) s) rows) f ∙ no_word_row k)
 
 -- ---- two registers
 
@@ -199,16 +208,21 @@ no_offset operands.SegmentRm m n h = cc
 no_offset operands.TwoRegisters m n h = cc
 no_offset _ m n h = cc
 
-no_plain_address : (kind : Addressing) (ops : Operands) (reg m n : ℕ) → addressing_fits kind reg (rm_from ops (Register m) (Register n)) ≡ true → not (is_plain kind) ≡ true
+no_plain_address : (kind : Addressing) (ops : Operands) (reg m n : ℕ) → addressing_fits kind reg (rm_from ops (Register m) (Register n))
+    ≡ true → not (is_plain kind) ≡ true
 no_plain_address addressing.Nothing ops reg m n h = refl
-no_plain_address addressing.Offset ops reg m n h = absurd (no_offset ops m n (and_parts (reg == 0) (is_offset (rm_from ops (Register m) (Register n))) h).1)
+no_plain_address addressing.Offset ops reg m n h =
+    absurd (no_offset ops m n (and_parts (reg == 0) (is_offset (rm_from ops (Register m) (Register n))) h).1)
 no_plain_address (addressing.Modrm form) ops reg m n h = refl
 
-fits_address : (r : Row) (i : Insn) → form_fits r.form (parts_for r false i) ≡ true → addressing_fits r.form.addressing (parts_for r false i).reg (rm_from r.operands i.a i.b) ≡ true
+fits_address : (r : Row) (i : Insn) → form_fits r.form (parts_for r false i) ≡ true
+    → addressing_fits r.form.addressing (parts_for r false i).reg (rm_from r.operands i.a i.b) ≡ true
 unfolding form_fits parts_for
 fits_address r i h =
     let p = parts_for r false i in
-    (and_parts (has_code r.form p.code) (addressing_fits r.form.addressing p.reg p.rm) (and_parts (has_code r.form p.code && addressing_fits r.form.addressing p.reg p.rm) (immediate_fits r.form.immediate p.imm p.sel) h).0).1
+    (and_parts (has_code r.form p.code) (addressing_fits r.form.addressing p.reg p.rm)
+    (and_parts (has_code r.form p.code && addressing_fits r.form.addressing p.reg p.rm)
+    (immediate_fits r.form.immediate p.imm p.sel) h).0).1
 
 needs_pair : (o : Op) (s : Size) (m n : ℕ) → Needs (is_pair o s) plain (with_registers o s m n)
 unfolding insn_of
@@ -221,7 +235,8 @@ needs_pair o s m n r t =
 abbrev pair_row : Lead → ℕ → Op → Size → Row
 pair_row l code o s = row l code plus.Nothing slash_r immediate.Nothing o s operands.RmReg
 
-pair_suits : (l : Lead) (code : ℕ) (o : Op) (s : Size) (m n : ℕ) → repeats l ≡ false → m < 8 → n < 8 → Suits (pair_row l code o s) plain (with_registers o s m n)
+pair_suits : (l : Lead) (code : ℕ) (o : Op) (s : Size) (m n : ℕ) → repeats l ≡ false → m < 8 → n < 8
+    → Suits (pair_row l code o s) plain (with_registers o s m n)
 unfolding parts_for form_fits insn_of
 pair_suits l code o s m n e a b = record {
   means = ap (λ (t : Bool). record { op = o; size = s; a = Register m; b = Register n; imm = 0; sel = 0; rep = t }) e;
@@ -229,23 +244,31 @@ pair_suits l code o s m n e a b = record {
   widths = refl;
 }
 
-pair_is_chosen : (before after : List Row) (l : Lead) (code : ℕ) (o : Op) (s : Size) (m n : ℕ) → repeats l ≡ false → m < 8 → n < 8 → rows ≡ before ++ pair_row l code o s ∷ after → none_can (is_pair o s) before ≡ true
-    → chosen plain (with_registers o s m n) ≡ Some (laid_out (pair_row l code o s).form (parts_for (pair_row l code o s) false (with_registers o s m n)))
+pair_is_chosen : (before after : List Row) (l : Lead) (code : ℕ) (o : Op) (s : Size) (m n : ℕ) → repeats l ≡ false → m < 8 → n < 8
+    → rows ≡ before ++ pair_row l code o s ∷ after → none_can (is_pair o s) before ≡ true
+    → chosen plain (with_registers o s m n) ≡ Some
+    (laid_out (pair_row l code o s).form (parts_for (pair_row l code o s) false (with_registers o s m n)))
 pair_is_chosen before after l code o s m n e a b at first =
-    first_of (is_pair o s) plain (with_registers o s m n) (needs_pair o s m n) before after (pair_row l code o s) at first (pair_suits l code o s m n e a b)
+    first_of (is_pair o s) plain (with_registers o s m n) (needs_pair o s m n) before after (pair_row l code o s) at first
+    (pair_suits l code o s m n e a b)
 
-laid_pair : (code : ℕ) (o : Op) (s : Size) (m n : ℕ) → Begins (code ∷ (0xc0 + 8 * n + m) ∷ []) 2 (Some (laid_out (pair_row lead.Nothing code o s).form (parts_for (pair_row lead.Nothing code o s) false (with_registers o s m n))))
+laid_pair : (code : ℕ) (o : Op) (s : Size) (m n : ℕ)
+    → Begins (code ∷ (0xc0 + 8 * n + m) ∷ []) 2
+    (Some (laid_out (pair_row lead.Nothing code o s).form (parts_for (pair_row lead.Nothing code o s) false (with_registers o s m n))))
 unfolding parts_for
 laid_pair code o s m n = (ap (λ (x : ℕ). code ∷ x ∷ []) (modrm_is n m), refl)
 
-laid_words : (code : ℕ) (o : Op) (m n : ℕ) → Begins (0x66 ∷ code ∷ (0xc0 + 8 * n + m) ∷ []) 3 (Some (laid_out (pair_row lead.Word code o Word).form (parts_for (pair_row lead.Word code o Word) false (with_registers o Word m n))))
+laid_words : (code : ℕ) (o : Op) (m n : ℕ) → Begins (0x66 ∷ code ∷ (0xc0 + 8 * n + m) ∷ []) 3
+    (Some (laid_out (pair_row lead.Word code o Word).form (parts_for (pair_row lead.Word code o Word) false (with_registers o Word m n))))
 unfolding parts_for
 laid_words code o m n = (ap (λ (x : ℕ). 0x66 ∷ code ∷ x ∷ []) (modrm_is n m), refl)
 
-two_registers : (before after : List Row) (code : ℕ) (o : Op) (s : Size) (m n : ℕ) → m < 8 → n < 8 → rows ≡ before ++ pair_row lead.Nothing code o s ∷ after → none_can (is_pair o s) before ≡ true
+two_registers : (before after : List Row) (code : ℕ) (o : Op) (s : Size) (m n : ℕ) → m < 8 → n < 8 → rows ≡ before
+    ++ pair_row lead.Nothing code o s ∷ after → none_can (is_pair o s) before ≡ true
     → Begins (code ∷ (0xc0 + 8 * n + m) ∷ []) 2 (chosen plain (with_registers o s m n))
 two_registers before after code o s m n a b at first =
-    subst (Begins (code ∷ (0xc0 + 8 * n + m) ∷ []) 2) (sym (pair_is_chosen before after lead.Nothing code o s m n refl a b at first)) (laid_pair code o s m n)
+    subst (Begins (code ∷ (0xc0 + 8 * n + m) ∷ []) 2) (sym (pair_is_chosen before after lead.Nothing code o s m n refl a b at first))
+    (laid_pair code o s m n)
 
 byte_at : (k : ℕ) → k < 8 → rows ≡ take (9 * k + 5) rows ++ pair_row lead.Nothing (8 * k) (arithmetic k) Byte ∷ drop (9 * k + 6) rows
 unfolding rows
@@ -295,11 +318,15 @@ long_is_first (suc (suc (suc (suc (suc (suc zero)))))) lt = refl
 long_is_first (suc (suc (suc (suc (suc (suc (suc zero))))))) lt = refl
 long_is_first (suc (suc (suc (suc (suc (suc (suc (suc n)))))))) lt = absurd (omega arith)
 
-pub rm_is_destination : (k m n : ℕ) → k < 8 → m < 8 → n < 8 → Begins ((8 * k + 1) ∷ (0xc0 + 8 * n + m) ∷ []) 2 (chosen plain (with_registers (arithmetic k) Long m n))
-rm_is_destination k m n lt a b = two_registers (take (9 * k + 6) rows) (drop (9 * k + 7) rows) (8 * k + 1) (arithmetic k) Long m n a b (long_at k lt) (long_is_first k lt)
+pub rm_is_destination : (k m n : ℕ) → k < 8 → m < 8 → n < 8 → Begins ((8 * k + 1) ∷ (0xc0 + 8 * n + m) ∷ []) 2
+    (chosen plain (with_registers (arithmetic k) Long m n))
+rm_is_destination k m n lt a b = two_registers (take (9 * k + 6) rows) (drop (9 * k + 7) rows) (8 * k + 1) (arithmetic k) Long m n a b
+    (long_at k lt) (long_is_first k lt)
 
-pub rm_is_byte_destination : (k m n : ℕ) → k < 8 → m < 8 → n < 8 → Begins ((8 * k) ∷ (0xc0 + 8 * n + m) ∷ []) 2 (chosen plain (with_registers (arithmetic k) Byte m n))
-rm_is_byte_destination k m n lt a b = two_registers (take (9 * k + 5) rows) (drop (9 * k + 6) rows) (8 * k) (arithmetic k) Byte m n a b (byte_at k lt) (byte_is_first k lt)
+pub rm_is_byte_destination : (k m n : ℕ) → k < 8 → m < 8 → n < 8
+    → Begins ((8 * k) ∷ (0xc0 + 8 * n + m) ∷ []) 2 (chosen plain (with_registers (arithmetic k) Byte m n))
+rm_is_byte_destination k m n lt a b =
+    two_registers (take (9 * k + 5) rows) (drop (9 * k + 6) rows) (8 * k) (arithmetic k) Byte m n a b (byte_at k lt) (byte_is_first k lt)
 
 pub moved_bytes_to_rm : (m n : ℕ) → m < 8 → n < 8 → Begins (0x88 ∷ (0xc0 + 8 * n + m) ∷ []) 2 (chosen plain (with_registers Mov Byte m n))
 unfolding rows
@@ -309,9 +336,11 @@ pub moved_to_rm : (m n : ℕ) → m < 8 → n < 8 → Begins (0x89 ∷ (0xc0 + 8
 unfolding rows
 moved_to_rm m n a b = two_registers (take 138 rows) (drop 139 rows) 0x89 Mov Long m n a b refl refl
 
-pub moved_words_to_rm : (m n : ℕ) → m < 8 → n < 8 → Begins (0x66 ∷ 0x89 ∷ (0xc0 + 8 * n + m) ∷ []) 3 (chosen plain (with_registers Mov Word m n))
+pub moved_words_to_rm : (m n : ℕ) → m < 8 → n < 8 → Begins (0x66 ∷ 0x89 ∷ (0xc0 + 8 * n + m) ∷ []) 3
+    (chosen plain (with_registers Mov Word m n))
 unfolding rows
 moved_words_to_rm m n a b =
-    subst (Begins (0x66 ∷ 0x89 ∷ (0xc0 + 8 * n + m) ∷ []) 3) (sym (pair_is_chosen (take 145 rows) (drop 146 rows) lead.Word 0x89 Mov Word m n refl a b refl refl)) (laid_words 0x89 Mov m n)
+    subst (Begins (0x66 ∷ 0x89 ∷ (0xc0 + 8 * n + m) ∷ []) 3)
+    (sym (pair_is_chosen (take 145 rows) (drop 146 rows) lead.Word 0x89 Mov Word m n refl a b refl refl)) (laid_words 0x89 Mov m n)
 
 pub ruleset into_rm = (rm_is_destination, rm_is_byte_destination, moved_to_rm, moved_bytes_to_rm, moved_words_to_rm)

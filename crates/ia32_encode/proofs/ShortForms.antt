@@ -28,10 +28,12 @@ record IsFirst (place : ℕ) (r : Row) : Type 0 where
   at : rows ≡ take place rows ++ r ∷ drop (place + 1) rows
   first : none_can (is_of r.op r.size) (take place rows) ≡ true
 
-chosen_by : (place : ℕ) (r : Row) (w : Wide) (i : Insn) → IsFirst place r → r.op ≡ i.op → r.size ≡ i.size → Suits r w i → chosen w i ≡ Some (laid_out r.form (parts_for r w.disp i))
+chosen_by : (place : ℕ) (r : Row) (w : Wide) (i : Insn) → IsFirst place r → r.op ≡ i.op → r.size ≡ i.size → Suits r w i
+    → chosen w i ≡ Some (laid_out r.form (parts_for r w.disp i))
 chosen_by place r w i f o s suits =
     first_of (is_of i.op i.size) w i (needs_same w i) (take place rows) (drop (place + 1) rows) r f.at
-    (ap (λ (t : Op). none_can (is_of t i.size) (take place rows)) (sym o) ∙ (ap (λ (t : _). none_can (is_of r.op t) (take place rows)) (sym s) ∙ f.first)) suits
+    (ap (λ (t : Op). none_can (is_of t i.size) (take place rows)) (sym o)
+    ∙ (ap (λ (t : _). none_can (is_of r.op t) (take place rows)) (sym s) ∙ f.first)) suits
 
 -- ---- RET
 
@@ -44,7 +46,8 @@ return_first = record { at = refl; first = refl }
 
 pub ret_is_one_byte : chosen plain (with_operand Return Absent) ≡ Some (bare (0xc3 ∷ []))
 unfolding return_row parts_for form_fits insn_of
-ret_is_one_byte = chosen_by 224 return_row plain (with_operand Return Absent) return_first refl refl (record { means = refl; fits = refl; widths = refl })
+ret_is_one_byte =
+    chosen_by 224 return_row plain (with_operand Return Absent) return_first refl refl (record { means = refl; fits = refl; widths = refl })
 
 -- ---- PUSH and POP of a register
 
@@ -73,17 +76,21 @@ opcode_suits : (k n : ℕ) (o : Op) → n < 8 → Suits (opcode_row (k * 8) o) p
 unfolding parts_for form_fits insn_of
 opcode_suits k n o lt = record {
   means = ap (λ (m : ℕ). with_operand o (Register m)) (in_opcode k n lt);
-  fits = both_true (both_true (ap (λ (m : ℕ). nat_le (k * 8) m && nat_le m (k * 8 + 7)) (opcode_is k n lt) ∙ within (k * 8) n 7 lt) refl) refl;
+  fits =
+      both_true (both_true (ap (λ (m : ℕ). nat_le (k * 8) m && nat_le m (k * 8 + 7)) (opcode_is k n lt) ∙ within (k * 8) n 7 lt) refl) refl;
   widths = refl;
 }
 
-opcode_laid : (k n : ℕ) (o : Op) → n < 8 → laid_out (opcode_row (k * 8) o).form (parts_for (opcode_row (k * 8) o) false (with_operand o (Register n))) ≡ bare ((k * 8 + n) ∷ [])
+opcode_laid : (k n : ℕ) (o : Op) → n < 8
+    → laid_out (opcode_row (k * 8) o).form (parts_for (opcode_row (k * 8) o) false (with_operand o (Register n))) ≡ bare ((k * 8 + n) ∷ [])
 unfolding parts_for
 opcode_laid k n o lt = ap (λ (m : ℕ). bare (m ∷ [])) (opcode_is k n lt)
 
-by_opcode : (place k n : ℕ) (o : Op) → IsFirst place (opcode_row (k * 8) o) → n < 8 → chosen plain (with_operand o (Register n)) ≡ Some (bare ((k * 8 + n) ∷ []))
+by_opcode : (place k n : ℕ) (o : Op) → IsFirst place (opcode_row (k * 8) o) → n < 8 → chosen plain (with_operand o (Register n)) ≡ Some
+    (bare ((k * 8 + n) ∷ []))
 by_opcode place k n o f lt =
-    chosen_by place (opcode_row (k * 8) o) plain (with_operand o (Register n)) f refl refl (opcode_suits k n o lt) ∙ ap (λ (a : _). Some a) (opcode_laid k n o lt)
+    chosen_by place (opcode_row (k * 8) o) plain (with_operand o (Register n)) f refl refl (opcode_suits k n o lt)
+    ∙ ap (λ (a : _). Some a) (opcode_laid k n o lt)
 
 pub push_is_one_byte : (n : ℕ) → n < 8 → chosen plain (with_operand Push (Register n)) ≡ Some (bare ((0x50 + n) ∷ []))
 push_is_one_byte n lt = by_opcode 157 10 n Push push_first lt
@@ -116,13 +123,16 @@ branch_suits w n o d = record {
   widths = four_bytes w;
 }
 
-branch_laid : (w : Bool) (n : ℕ) (o : Op) (d : ℕ) → Begins (n ∷ []) 5 (Some (laid_out (branch_row n o).form (parts_for (branch_row n o) false (by_distance o 0 d))))
+branch_laid : (w : Bool) (n : ℕ) (o : Op) (d : ℕ)
+    → Begins (n ∷ []) 5 (Some (laid_out (branch_row n o).form (parts_for (branch_row n o) false (by_distance o 0 d))))
 unfolding parts_for
 branch_laid w n o d = (refl, refl)
 
-by_branch : (place n : ℕ) (o : Op) (w : Bool) (d : ℕ) → IsFirst place (branch_row n o) → Begins (n ∷ []) 5 (chosen (with_wide w) (by_distance o 0 d))
+by_branch : (place n : ℕ) (o : Op) (w : Bool) (d : ℕ) → IsFirst place (branch_row n o)
+    → Begins (n ∷ []) 5 (chosen (with_wide w) (by_distance o 0 d))
 by_branch place n o w d f =
-    subst (Begins (n ∷ []) 5) (sym (chosen_by place (branch_row n o) (with_wide w) (by_distance o 0 d) f refl refl (branch_suits w n o d))) (branch_laid w n o d)
+    subst (Begins (n ∷ []) 5) (sym (chosen_by place (branch_row n o) (with_wide w) (by_distance o 0 d) f refl refl (branch_suits w n o d)))
+    (branch_laid w n o d)
 
 pub jmp_by_four_bytes : (w : Bool) (distance : ℕ) → Begins (0xe9 ∷ []) 5 (chosen (with_wide w) (by_distance Jmp 0 distance))
 jmp_by_four_bytes w d = by_branch 172 0xe9 Jmp w d jmp_first
@@ -152,12 +162,16 @@ conditional_suits w n d lt = record {
   widths = four_bytes w;
 }
 
-conditional_laid : (n d : ℕ) → n < 16 → Begins (0x0f ∷ (0x80 + n) ∷ []) 6 (Some (laid_out conditional.form (parts_for conditional false (by_distance Jcc n d))))
+conditional_laid : (n d : ℕ) → n < 16
+    → Begins (0x0f ∷ (0x80 + n) ∷ []) 6 (Some (laid_out conditional.form (parts_for conditional false (by_distance Jcc n d))))
 unfolding parts_for
 conditional_laid n d lt = (ap (λ (m : ℕ). 0x0f ∷ m ∷ []) (condition_is n lt), refl)
 
-pub jcc_by_four_bytes : (w : Bool) (condition distance : ℕ) → condition < 16 → Begins (0x0f ∷ (0x80 + condition) ∷ []) 6 (chosen (with_wide w) (by_distance Jcc condition distance))
+pub jcc_by_four_bytes : (w : Bool) (condition distance : ℕ) → condition < 16
+    → Begins (0x0f ∷ (0x80 + condition) ∷ []) 6 (chosen (with_wide w) (by_distance Jcc condition distance))
 jcc_by_four_bytes w n d lt =
-    subst (Begins (0x0f ∷ (0x80 + n) ∷ []) 6) (sym (chosen_by 169 conditional (with_wide w) (by_distance Jcc n d) jcc_first refl refl (conditional_suits w n d lt))) (conditional_laid n d lt)
+    subst (Begins (0x0f ∷ (0x80 + n) ∷ []) 6)
+    (sym (chosen_by 169 conditional (with_wide w) (by_distance Jcc n d) jcc_first refl refl (conditional_suits w n d lt)))
+    (conditional_laid n d lt)
 
 pub ruleset long_branches = (jmp_by_four_bytes, call_by_four_bytes, jcc_by_four_bytes)

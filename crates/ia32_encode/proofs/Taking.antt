@@ -49,7 +49,8 @@ pub record Taken (table : List Row) (wide : Wide) (insn : Insn) (a : ArrayBytes)
   pub first : FirstFail table wide insn at
   pub text : (d : Row) → a ≡ laid_out (get_or table at d).form (parts_for (get_or table at d) wide.disp insn)
 
-fail_first : (row : Row) (table : List Row) (wide : Wide) (insn : Insn) → does_suit row wide insn ≡ false → (n : ℕ) → FirstFail table wide insn n → FirstFail (row ∷ table) wide insn (suc n)
+fail_first : (row : Row) (table : List Row) (wide : Wide) (insn : Insn) → does_suit row wide insn ≡ false → (n : ℕ)
+    → FirstFail table wide insn n → FirstFail (row ∷ table) wide insn (suc n)
 fail_first row table wide insn t n h zero lt d s = both_ways (does_suit row wide insn) t (suits_true row wide insn s)
 fail_first row table wide insn t n h (suc k) lt d s = h k (omega arith) d s
 
@@ -79,11 +80,23 @@ taken [] wide insn a e = absurd cc
 taken (row ∷ table) wide insn a e = taken_or row table wide insn a (does_suit row wide insn) refl e (taken table wide insn a)
 
 any_row : Row
-any_row = record { form = record { lead = lead.Nothing; opcode = 0; plus = plus.Nothing; addressing = addressing.Nothing; immediate = immediate.Nothing }; op = op.Nop; size = size.Long; operands = operands.Nothing }
+any_row = record {
+  form = record {
+    lead = lead.Nothing;
+    opcode = 0;
+    plus = plus.Nothing;
+    addressing = addressing.Nothing;
+    immediate = immediate.Nothing;
+  };
+  op = op.Nop;
+  size = size.Long;
+  operands = operands.Nothing;
+}
 
 pub chosen_taken : (wide : Wide) (insn : Insn) (a : ArrayBytes) → chosen wide insn ≡ Some a → (d : Row) → IsChosen wide insn a
 unfolding chosen
-chosen_taken wide insn a e d = let t = taken rows wide insn a e in is_chosen rows refl wide insn t.at d t.below (t.suits d) t.first a (t.text d)
+chosen_taken wide insn a e d = let t =
+    taken rows wide insn a e in is_chosen rows refl wide insn t.at d t.below (t.suits d) t.first a (t.text d)
 
 -- ---- where it takes none
 
@@ -93,11 +106,14 @@ none_or : (row : Row) (table : List Row) (wide : Wide) (insn : Insn) (b : Bool) 
 none_or row table wide insn true t e = absurd cc
 none_or row table wide insn false t e = (t, e)
 
-none_of : (table : List Row) (wide : Wide) (insn : Insn) → chosen_from table wide insn ≡ None → (k : ℕ) (d : Row) → k < length table → Suits (get_or table k d) wide insn → ⊥
+none_of : (table : List Row) (wide : Wide) (insn : Insn) → chosen_from table wide insn ≡ None → (k : ℕ) (d : Row) → k < length table
+    → Suits (get_or table k d) wide insn → ⊥
 unfolding chosen_from
 none_of [] wide insn e k d lt s = absurd (omega arith)
-none_of (row ∷ table) wide insn e zero d lt s = both_ways (does_suit row wide insn) (none_or row table wide insn (does_suit row wide insn) refl e).0 (suits_true row wide insn s)
-none_of (row ∷ table) wide insn e (suc k) d lt s = none_of table wide insn (none_or row table wide insn (does_suit row wide insn) refl e).1 k d (omega arith) s
+none_of (row ∷ table) wide insn e zero d lt s =
+    both_ways (does_suit row wide insn) (none_or row table wide insn (does_suit row wide insn) refl e).0 (suits_true row wide insn s)
+none_of (row ∷ table) wide insn e (suc k) d lt s =
+    none_of table wide insn (none_or row table wide insn (does_suit row wide insn) refl e).1 k d (omega arith) s
 
 pub none_suit : (wide : Wide) (insn : Insn) → chosen wide insn ≡ None → NoneSuits wide insn
 unfolding chosen
@@ -144,12 +160,14 @@ modrm_below : (m r n : ℕ) → m < 4 → r < 8 → n < 8 → modrm m r n < 256
 modrm_below m r n a b c = omega arith
 
 memory_cases : (sib : Bool) (reg len : ℕ) (a : Address) → reg < 8 → a.disp < 2 ^ 32
-    → AreBytes (if sib then modrm (mode_for a.base len) reg 4 ∷ modrm (scale_bits a.scale) (index_number a.index) (base_number a.base) ∷ disp_bytes len a.disp
+    → AreBytes (if sib then modrm (mode_for a.base len) reg 4 ∷ modrm (scale_bits a.scale) (index_number a.index)
+    (base_number a.base) ∷ disp_bytes len a.disp
     else modrm (mode_for a.base len) reg (base_number a.base) ∷ disp_bytes len a.disp)
 memory_cases true reg len a r d = (
   modrm_below (mode_for a.base len) reg 4 (mode_below a.base len) r (omega arith),
   (
-    modrm_below (scale_bits a.scale) (index_number a.index) (base_number a.base) (scale_below a.scale) (index_below a.index) (base_below a.base),
+    modrm_below (scale_bits a.scale) (index_number a.index) (base_number a.base) (scale_below a.scale) (index_below a.index)
+        (base_below a.base),
     disp_cases (len == 0) (len == 1) a.disp d,
   ),
 )
@@ -186,15 +204,18 @@ immediate_are immediate.Word p i s = word_are (p.imm % 65536) (omega arith)
 immediate_are immediate.Long p i s = long_are p.imm i
 immediate_are immediate.Far p i s = AreBytes-append (long_bytes p.imm) (word_bytes p.sel) (long_are p.imm i) (word_are p.sel (omega arith))
 
-form_are : (form : Form) (p : Parts) → last_code form ≤ 255 → form_fits form p ≡ true → IsOperandBounded p.rm → p.imm < 2 ^ 32 → p.sel < 2 ^ 16 → AreBytes (form_bytes form p)
+form_are : (form : Form) (p : Parts) → last_code form ≤ 255 → form_fits form p ≡ true → IsOperandBounded p.rm → p.imm < 2 ^ 32
+    → p.sel < 2 ^ 16 → AreBytes (form_bytes form p)
 unfolding form_fits
 form_are form p last h rm i s =
     let below = fits_below form p h in
     let a = and_parts (has_code form p.code && addressing_fits form.addressing p.reg p.rm) (immediate_fits form.immediate p.imm p.sel) h in
-    let code = and_parts (nat_le (first_code form) p.code) (nat_le p.code (last_code form)) (and_parts (has_code form p.code) (addressing_fits form.addressing p.reg p.rm) a.0).0 in
+    let code = and_parts (nat_le (first_code form) p.code) (nat_le p.code (last_code form))
+    (and_parts (has_code form p.code) (addressing_fits form.addressing p.reg p.rm) a.0).0 in
     let most = leb-true p.code (last_code form) code.1 in
     AreBytes-append (head_bytes form p) (immediate_bytes form.immediate p)
-    (AreBytes-append (lead_bytes form.lead) (p.code ∷ addressing_bytes form.addressing p) (lead_are form.lead) (omega (arith, most, last), addressing_are form.addressing p below.0 below.1 rm))
+    (AreBytes-append (lead_bytes form.lead) (p.code ∷ addressing_bytes form.addressing p) (lead_are form.lead)
+    (omega (arith, most, last), addressing_are form.addressing p below.0 below.1 rm))
     (immediate_are form.immediate p i s)
 
 abbrev is_byte_row : Row → Bool
@@ -235,16 +256,19 @@ sel_bounded plus.Register n h = h
 sel_bounded plus.OtherRegister n h = h
 sel_bounded plus.Condition n h = omega arith
 
-parts_are : (row : Row) (wide : Bool) (insn : Insn) → last_code row.form ≤ 255 → form_fits row.form (parts_for row wide insn) ≡ true → IsBounded insn → AreBytes (form_bytes row.form (parts_for row wide insn))
+parts_are : (row : Row) (wide : Bool) (insn : Insn) → last_code row.form ≤ 255 → form_fits row.form (parts_for row wide insn) ≡ true
+    → IsBounded insn → AreBytes (form_bytes row.form (parts_for row wide insn))
 unfolding parts_for
 parts_are row wide insn last fits h =
-    form_are row.form (parts_for row wide insn) last fits (rm_bounded row.operands insn.a insn.b h.a h.b) h.imm (sel_bounded row.form.plus insn.sel h.sel)
+    form_are row.form (parts_for row wide insn) last fits (rm_bounded row.operands insn.a insn.b h.a h.b) h.imm
+    (sel_bounded row.form.plus insn.sel h.sel)
 
 pub chosen_good : (wide : Wide) (insn : Insn) (a : ArrayBytes) → chosen wide insn ≡ Some a → IsBounded insn → IsGood wide insn a
 chosen_good wide insn a e h =
     let c = chosen_taken wide insn a e any_row in
     let bytes = form_bytes c.row.form (parts_for c.row wide.disp insn) in
-    let text : take a.len a.bytes ≡ bytes = ap (λ (t : ArrayBytes). take t.len t.bytes) c.text ∙ take_at bytes (replicate (16 - length bytes) 0) (length bytes) refl in
+    let text : take a.len a.bytes ≡ bytes =
+    ap (λ (t : ArrayBytes). take t.len t.bytes) c.text ∙ take_at bytes (replicate (16 - length bytes) 0) (length bytes) refl in
     let are = subst AreBytes (sym text) (parts_are c.row wide.disp insn (listed_last c.row c.listed) c.suits.fits h) in
     record {
       chosen = c;

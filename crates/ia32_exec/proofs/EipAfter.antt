@@ -165,10 +165,12 @@ module _ (o : Op) (i : Insn) (len : ℕ) (r : Regs) (b : ℕ → ℕ) where
   unfolding signed_multiplied
   signed_multiplied_leads = signed_by_leads i.b
 
-  counted_leads : IsString o → (rep : Bool) → i.rep ≡ rep → (count : ℕ) (after : Regs) → after.eip ≡ r.eip → IsEipAfter o i len r (counted rep count len after).eip
+  counted_leads : IsString o → (rep : Bool) → i.rep ≡ rep → (count : ℕ) (after : Regs) → after.eip ≡ r.eip
+      → IsEipAfter o i len r (counted rep count len after).eip
   counted_leads kind false is count after e = inl (ap (λ k. (k + len) % 2 ^ 32) e)
   counted_leads kind true is count after e = by_test (count == 1) where
-    by_test : (last : Bool) → IsEipAfter o i len r (cond last (eip_past len (with_whole 1 (count - 1) after)) (with_whole 1 (count - 1) after)).eip
+    by_test : (last : Bool)
+        → IsEipAfter o i len r (cond last (eip_past len (with_whole 1 (count - 1) after)) (with_whole 1 (count - 1) after)).eip
     by_test true = inl (ap (λ k. (k + len) % 2 ^ 32) e)
     by_test false = inr (inr ((kind, is), e))
 

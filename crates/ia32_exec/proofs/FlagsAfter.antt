@@ -40,7 +40,8 @@ use Rattle.ia32_exec.specs.FlagsAfter.{AreSet, AreKept, Leaves, SystemFlagsStay,
 
 -- ---- IF, IOPL, and the bits that the profile never sets
 
-put_set : (f : Flags) (at : ℕ) (b : Bool) → at < 32 → bit_and (1 * 2 ^ at % 2 ^ 32) 2 ≡ 0 → bit_and (1 * 2 ^ at % 2 ^ 32) 0xFFFF_C128 ≡ 0 → AreSet f (flag_put f at b)
+put_set : (f : Flags) (at : ℕ) (b : Bool) → at < 32 → bit_and (1 * 2 ^ at % 2 ^ 32) 2 ≡ 0 → bit_and (1 * 2 ^ at % 2 ^ 32) 0xFFFF_C128 ≡ 0
+    → AreSet f (flag_put f at b)
 put_set f at b h e k = record { fixed = put_apart f.bits at 2 b h e; others = put_apart f.bits at 0xFFFF_C128 b h k }
 
 kept_same : (f : Flags) → AreKept f f
@@ -58,25 +59,32 @@ small true = omega arith
 small false = omega arith
 
 kept_0 : (f : Flags) (b : Bool) → AreKept f (flag_put f 0 b)
-kept_0 f b = let s = small b in record { interrupt = omega (arith, s); level = omega (arith, s); set = put_set f 0 b (omega arith) refl refl }
+kept_0 f b = let s =
+    small b in record { interrupt = omega (arith, s); level = omega (arith, s); set = put_set f 0 b (omega arith) refl refl }
 
 kept_2 : (f : Flags) (b : Bool) → AreKept f (flag_put f 2 b)
-kept_2 f b = let s = small b in record { interrupt = omega (arith, s); level = omega (arith, s); set = put_set f 2 b (omega arith) refl refl }
+kept_2 f b = let s =
+    small b in record { interrupt = omega (arith, s); level = omega (arith, s); set = put_set f 2 b (omega arith) refl refl }
 
 kept_4 : (f : Flags) (b : Bool) → AreKept f (flag_put f 4 b)
-kept_4 f b = let s = small b in record { interrupt = omega (arith, s); level = omega (arith, s); set = put_set f 4 b (omega arith) refl refl }
+kept_4 f b = let s =
+    small b in record { interrupt = omega (arith, s); level = omega (arith, s); set = put_set f 4 b (omega arith) refl refl }
 
 kept_6 : (f : Flags) (b : Bool) → AreKept f (flag_put f 6 b)
-kept_6 f b = let s = small b in record { interrupt = omega (arith, s); level = omega (arith, s); set = put_set f 6 b (omega arith) refl refl }
+kept_6 f b = let s =
+    small b in record { interrupt = omega (arith, s); level = omega (arith, s); set = put_set f 6 b (omega arith) refl refl }
 
 kept_7 : (f : Flags) (b : Bool) → AreKept f (flag_put f 7 b)
-kept_7 f b = let s = small b in record { interrupt = omega (arith, s); level = omega (arith, s); set = put_set f 7 b (omega arith) refl refl }
+kept_7 f b = let s =
+    small b in record { interrupt = omega (arith, s); level = omega (arith, s); set = put_set f 7 b (omega arith) refl refl }
 
 kept_10 : (f : Flags) (b : Bool) → AreKept f (flag_put f 10 b)
-kept_10 f b = let s = small b in record { interrupt = omega (arith, s); level = omega (arith, s); set = put_set f 10 b (omega arith) refl refl }
+kept_10 f b = let s =
+    small b in record { interrupt = omega (arith, s); level = omega (arith, s); set = put_set f 10 b (omega arith) refl refl }
 
 kept_11 : (f : Flags) (b : Bool) → AreKept f (flag_put f 11 b)
-kept_11 f b = let s = small b in record { interrupt = omega (arith, s); level = omega (arith, s); set = put_set f 11 b (omega arith) refl refl }
+kept_11 f b = let s =
+    small b in record { interrupt = omega (arith, s); level = omega (arith, s); set = put_set f 11 b (omega arith) refl refl }
 
 change_kept : (f : Flags) (at : ℕ) (b : Option Bool) → ((v : Bool) → AreKept f (flag_put f at v)) → AreKept f (changed f at b)
 unfolding changed
@@ -101,7 +109,9 @@ settled_kept s f =
 taken_kept : (f : Flags) (v : ℕ) → AreKept f (taken f v)
 unfolding taken
 taken_kept f v =
-    kept_on f _ _ (kept_0 f _) (kept_on _ _ _ (kept_2 _ _) (kept_on _ _ _ (kept_4 _ _) (kept_on _ _ _ (kept_6 _ _) (kept_on _ _ _ (kept_7 _ _) (kept_on _ _ _ (kept_10 _ _) (kept_11 _ _))))))
+    kept_on f _ _ (kept_0 f _)
+    (kept_on _ _ _ (kept_2 _ _)
+    (kept_on _ _ _ (kept_4 _ _) (kept_on _ _ _ (kept_6 _ _) (kept_on _ _ _ (kept_7 _ _) (kept_on _ _ _ (kept_10 _ _) (kept_11 _ _))))))
 
 alu_kept : (o : Op) (s : Size) (a b : ℕ) (f : Flags) → AreKept f (alu o s a b f).1
 unfolding alu
@@ -152,7 +162,8 @@ apart_kept (Segment g) s v r = apart_same r
 apart_kept (Control n) s v r = apart_same r
 
 apart_halves : (s : Size) (below above : ℕ) (r : Regs) → IsApart r (with_halves s below above r)
-apart_halves s below above r = apart_on r (with_register s 0 below r) _ (apart_register s 0 below r) (apart_register s (upper s) above (with_register s 0 below r))
+apart_halves s below above r =
+    apart_on r (with_register s 0 below r) _ (apart_register s 0 below r) (apart_register s (upper s) above (with_register s 0 below r))
 
 -- ---- what is left
 
@@ -166,7 +177,8 @@ module _ (i : Insn) (len : ℕ) (r : Regs) where
 
   of_arithmetic : (b : ℕ → ℕ) → Leaves r (arithmetic i len r b)
   unfolding arithmetic
-  of_arithmetic b = next_with (computed i r b).1 _ (alu_kept i.op i.size _ _ r.flags) (apart_destination i.a i.size (computed i r b).0 (flagged len (computed i r b).1 r))
+  of_arithmetic b = next_with (computed i r b).1 _ (alu_kept i.op i.size _ _ r.flags)
+      (apart_destination i.a i.size (computed i r b).0 (flagged len (computed i r b).1 r))
 
   of_tested : (b : ℕ → ℕ) → Leaves r (tested i len r b)
   unfolding tested
@@ -182,7 +194,8 @@ module _ (i : Insn) (len : ℕ) (r : Regs) where
   unfolding multiplied
   of_multiplied sign b =
       let p = multiply sign i.size (register_value i.size 0 r) (value_of i.a i.size r b) r.flags in
-      next_with p.1 _ (multiply_kept sign i.size _ _ r.flags) (apart_halves i.size (p.0 % span i.size) (p.0 / span i.size) (flagged len p.1 r))
+      next_with p.1 _ (multiply_kept sign i.size _ _ r.flags)
+      (apart_halves i.size (p.0 % span i.size) (p.0 / span i.size) (flagged len p.1 r))
 
   of_product : (x y : ℕ) → Leaves r (product_to i x y len r)
   unfolding product_to
@@ -219,7 +232,9 @@ module _ (i : Insn) (len : ℕ) (r : Regs) where
   of_branch true ws = kept_same r.flags
   of_branch false ws = kept_same r.flags
 
-  of_flags : (c : Bool) (v : ℕ) → Leaves r (cond c (Stop FlagBits) (Done (eip_past len (with_whole 4 (esp_above 4 r) (record r { flags = taken r.flags v }))) Nothing))
+  of_flags : (c : Bool) (v : ℕ)
+      → Leaves r (cond c (Stop FlagBits)
+      (Done (eip_past len (with_whole 4 (esp_above 4 r) (record r { flags = taken r.flags v }))) Nothing))
   of_flags true v = tt
   of_flags false v = taken_kept r.flags v
 
@@ -228,7 +243,8 @@ module _ (i : Insn) (len : ℕ) (r : Regs) where
   of_counted false n ws a = subst (AreKept r.flags) (sym a.flags) (kept_same r.flags)
   of_counted true n ws a = choice (Rattle.std.proofs.Common.eqb (slice_index r.r 1) 1)
     where
-      choice : (c : Bool) → Leaves r (Done (cond c (eip_past len (with_whole 1 (slice_index r.r 1 - 1) n)) (with_whole 1 (slice_index r.r 1 - 1) n)) ws)
+      choice : (c : Bool) → Leaves r
+          (Done (cond c (eip_past len (with_whole 1 (slice_index r.r 1 - 1) n)) (with_whole 1 (slice_index r.r 1 - 1) n)) ws)
       choice true = subst (AreKept r.flags) (sym a.flags) (kept_same r.flags)
       choice false = subst (AreKept r.flags) (sym a.flags) (kept_same r.flags)
 
@@ -240,7 +256,8 @@ module _ (i : Insn) (len : ℕ) (r : Regs) where
   turned_lods v = apart_on r (with_register i.size 0 v r) _ (apart_register i.size 0 v r) (record { flags = refl })
 
   row_leaves : (o : Op) (b : ℕ → ℕ) → Leaves r (row o i len r b)
-  unfolding signed_multiplied multiplied_by moved moved_with_zeros moved_with_sign loaded_address exchanged pushed pushed_number popped all_pushed all_popped widened sign_spread frame_left set_by jump branched called flags_pushed flags_popped string
+  unfolding signed_multiplied multiplied_by moved moved_with_zeros moved_with_sign loaded_address exchanged pushed pushed_number popped
+      all_pushed all_popped widened sign_spread frame_left set_by jump branched called flags_pushed flags_popped string
   row_leaves Add b = of_arithmetic b
   row_leaves Or b = of_arithmetic b
   row_leaves Adc b = of_arithmetic b
@@ -278,8 +295,10 @@ module _ (i : Insn) (len : ℕ) (r : Regs) where
   row_leaves Leave b = kept_same r.flags
   row_leaves Nop b = next _ (apart_same _)
   row_leaves Setcc b = of_destination i.a Byte _ (eip_past len r) (apart_same _)
-  row_leaves Movs b = of_over (is_over i r) _ (turn Movs i.size r b).1 Nothing (of_counted i.rep _ (turn Movs i.size r b).1 (record { flags = refl }))
-  row_leaves Stos b = of_over (is_over i r) _ (turn Stos i.size r b).1 Nothing (of_counted i.rep _ (turn Stos i.size r b).1 (record { flags = refl }))
+  row_leaves Movs b =
+      of_over (is_over i r) _ (turn Movs i.size r b).1 Nothing (of_counted i.rep _ (turn Movs i.size r b).1 (record { flags = refl }))
+  row_leaves Stos b =
+      of_over (is_over i r) _ (turn Stos i.size r b).1 Nothing (of_counted i.rep _ (turn Stos i.size r b).1 (record { flags = refl }))
   row_leaves Lods b = of_over (is_over i r) _ Nothing Nothing (of_counted i.rep _ Nothing (turned_lods _))
   row_leaves Clc b = of_flag carry_at false (kept_0 r.flags)
   row_leaves Stc b = of_flag carry_at true (kept_0 r.flags)

@@ -66,7 +66,8 @@ module _ (b c : ℕ → ℕ) where
   value_same (Segment g) s r h = refl
   value_same (Control n) s r h = refl
 
-  source_same : (o : Operand) (imm : ℕ) (s : Size) (r : Regs) → Covers Same (operand_range o s r) → source_of o imm s r b ≡ source_of o imm s r c
+  source_same : (o : Operand) (imm : ℕ) (s : Size) (r : Regs) → Covers Same (operand_range o s r)
+      → source_of o imm s r b ≡ source_of o imm s r c
   source_same Absent imm s r h = refl
   source_same (Register n) imm s r h = refl
   source_same (Memory a) imm s r h = number_same s (address_of a r) h
@@ -74,7 +75,8 @@ module _ (b c : ℕ → ℕ) where
   source_same (Control n) imm s r h = refl
 
   -- of two operands one at most is in memory
-  both_covered : (x y : Operand) (s : Size) (r : Regs) → IsAlone x y → Covers Same (option_or (operand_range x s r) (operand_range y s r)) → Covers Same (operand_range x s r) × Covers Same (operand_range y s r)
+  both_covered : (x y : Operand) (s : Size) (r : Regs) → IsAlone x y → Covers Same (option_or (operand_range x s r) (operand_range y s r))
+      → Covers Same (operand_range x s r) × Covers Same (operand_range y s r)
   both_covered Absent y s r a h = (tt, h)
   both_covered (Register n) y s r a h = (tt, h)
   both_covered (Segment g) y s r a h = (tt, h)
@@ -85,44 +87,58 @@ module _ (b c : ℕ → ℕ) where
   both_covered (Memory p) (Segment g) s r a h = (h, tt)
   both_covered (Memory p) (Control n) s r a h = (h, tt)
 
-  arithmetic_same : (i : Insn) (len : ℕ) (r : Regs) → Covers Same (operand_range i.b i.size r) → Covers Same (operand_range i.a i.size r) → arithmetic i len r b ≡ arithmetic i len r c
+  arithmetic_same : (i : Insn) (len : ℕ) (r : Regs) → Covers Same (operand_range i.b i.size r) → Covers Same (operand_range i.a i.size r)
+      → arithmetic i len r b ≡ arithmetic i len r c
   unfolding arithmetic
   arithmetic_same i len r h k =
       two (λ x y. done (to_destination i.a i.size (alu i.op i.size x y r.flags).0 (flagged len (alu i.op i.size x y r.flags).1 r))) _ _ _ _
       (value_same i.a i.size r k) (source_same i.b i.imm i.size r h)
 
-  tested_same : (i : Insn) (len : ℕ) (r : Regs) → Covers Same (operand_range i.a i.size r) × Covers Same (operand_range i.b i.size r) → tested i len r b ≡ tested i len r c
+  tested_same : (i : Insn) (len : ℕ) (r : Regs) → Covers Same (operand_range i.a i.size r) × Covers Same (operand_range i.b i.size r)
+      → tested i len r b ≡ tested i len r c
   unfolding tested
-  tested_same i len r h = two (λ x y. Done (flagged len (alu i.op i.size x y r.flags).1 r) Nothing) _ _ _ _ (value_same i.a i.size r h.0) (source_same i.b i.imm i.size r h.1)
+  tested_same i len r h = two (λ x y. Done (flagged len (alu i.op i.size x y r.flags).1 r) Nothing) _ _ _ _ (value_same i.a i.size r h.0)
+      (source_same i.b i.imm i.size r h.1)
 
   shifted_same : (i : Insn) (len : ℕ) (r : Regs) → Covers Same (operand_range i.a i.size r) → shifted i len r b ≡ shifted i len r c
   unfolding shifted
   shifted_same i len r h =
-      ap (λ x. done (to_destination i.a i.size (shift i.op i.size x (count_of i.b i.imm r) r.flags).0 (flagged len (shift i.op i.size x (count_of i.b i.imm r) r.flags).1 r))) (value_same i.a i.size r h)
+      ap (λ x. done (to_destination i.a i.size (shift i.op i.size x (count_of i.b i.imm r) r.flags).0
+      (flagged len (shift i.op i.size x (count_of i.b i.imm r) r.flags).1 r))) (value_same i.a i.size r h)
 
-  multiplied_same : (sign : Bool) (i : Insn) (len : ℕ) (r : Regs) → Covers Same (operand_range i.a i.size r) → multiplied sign i len r b ≡ multiplied sign i len r c
+  multiplied_same : (sign : Bool) (i : Insn) (len : ℕ) (r : Regs) → Covers Same (operand_range i.a i.size r)
+      → multiplied sign i len r b ≡ multiplied sign i len r c
   unfolding multiplied
   multiplied_same sign i len r h =
       ap (λ x.
-      Done (with_halves i.size ((multiply sign i.size (register_value i.size 0 r) x r.flags).0 % span i.size) ((multiply sign i.size (register_value i.size 0 r) x r.flags).0 / span i.size) (flagged len (multiply sign i.size (register_value i.size 0 r) x r.flags).1 r)) Nothing) (value_same i.a i.size r h)
+      Done (with_halves i.size ((multiply sign i.size (register_value i.size 0 r) x r.flags).0 % span i.size)
+      ((multiply sign i.size (register_value i.size 0 r) x r.flags).0 / span i.size)
+      (flagged len (multiply sign i.size (register_value i.size 0 r) x r.flags).1 r)) Nothing) (value_same i.a i.size r h)
 
-  product_same : (i : Insn) (len : ℕ) (r : Regs) (o : Operand) → Covers Same (operand_range i.a i.size r) → Covers Same (operand_range o i.size r)
-      → product_to i (value_of i.a i.size r b) (value_of o i.size r b) len r ≡ product_to i (value_of i.a i.size r c) (value_of o i.size r c) len r
+  product_same : (i : Insn) (len : ℕ) (r : Regs) (o : Operand) → Covers Same (operand_range i.a i.size r)
+      → Covers Same (operand_range o i.size r)
+      → product_to i (value_of i.a i.size r b) (value_of o i.size r b) len r ≡ product_to i (value_of i.a i.size r c)
+      (value_of o i.size r c) len r
   product_same i len r o h k = two (λ x y. product_to i x y len r) _ _ _ _ (value_same i.a i.size r h) (value_same o i.size r k)
 
-  signed_same : (o : Operand) (i : Insn) (len : ℕ) (r : Regs) → Covers Same (operand_range i.a i.size r) → Covers Same (operand_range o i.size r) → signed_by o i len r b ≡ signed_by o i len r c
+  signed_same : (o : Operand) (i : Insn) (len : ℕ) (r : Regs) → Covers Same (operand_range i.a i.size r)
+      → Covers Same (operand_range o i.size r) → signed_by o i len r b ≡ signed_by o i len r c
   signed_same Absent i len r h k = multiplied_same true i len r h
   signed_same (Register n) i len r h k = product_same i len r (Register n) h k
   signed_same (Memory a) i len r h k = product_same i len r (Memory a) h k
   signed_same (Segment g) i len r h k = product_same i len r (Segment g) h k
   signed_same (Control n) i len r h k = product_same i len r (Control n) h k
 
-  divided_same : (sign : Bool) (i : Insn) (len : ℕ) (r : Regs) → Covers Same (operand_range i.a i.size r) → divided sign i len r b ≡ divided sign i len r c
+  divided_same : (sign : Bool) (i : Insn) (len : ℕ) (r : Regs) → Covers Same (operand_range i.a i.size r)
+      → divided sign i len r b ≡ divided sign i len r c
   unfolding divided
-  divided_same sign i len r h = ap (λ x. shared i.size (divide sign i.size (register_value i.size (upper i.size) r) (register_value i.size 0 r) x) (eip_past len r)) (value_same i.a i.size r h)
+  divided_same sign i len r h =
+      ap (λ x. shared i.size (divide sign i.size (register_value i.size (upper i.size) r) (register_value i.size 0 r) x) (eip_past len r))
+      (value_same i.a i.size r h)
 
   -- a string instruction that reads
-  turn_same : (over : Bool) (x : Outcome) (f : ℕ → Outcome) (s : Size) (at : ℕ) → Covers Same (cond over None (Some (record { at = at; len = width s / 8; seg = Ds })))
+  turn_same : (over : Bool) (x : Outcome) (f : ℕ → Outcome) (s : Size) (at : ℕ)
+      → Covers Same (cond over None (Some (record { at = at; len = width s / 8; seg = Ds })))
       → cond over x (f (number_at b s at)) ≡ cond over x (f (number_at c s at))
   turn_same true x f s at h = refl
   turn_same false x f s at h = ap f (number_same s at h)
@@ -136,7 +152,8 @@ module _ (b c : ℕ → ℕ) where
   all_popped_same : (len : ℕ) (r : Regs) → AreAll Same (stack_of r) 32 → all_popped len r b ≡ all_popped len r c
   unfolding all_popped
   all_popped_same len r h =
-      let f : ℕ → ℕ → ℕ → ℕ → ℕ → ℕ → ℕ → Outcome = λ p q s t u v w. Done (eip_past len (record r { r = p ∷ q ∷ s ∷ t ∷ esp_above 32 r ∷ u ∷ v ∷ w ∷ [] })) Nothing in
+      let f : ℕ → ℕ → ℕ → ℕ → ℕ → ℕ → ℕ → Outcome =
+      λ p q s t u v w. Done (eip_past len (record r { r = p ∷ q ∷ s ∷ t ∷ esp_above 32 r ∷ u ∷ v ∷ w ∷ [] })) Nothing in
       let g : (k : ℕ) → k < 8 → slot_of k r b ≡ slot_of k r c = λ k lt. slot_same r k lt h in
       ap (λ x. f x (slot_of 6 r b) (slot_of 5 r b) (slot_of 4 r b) (slot_of 2 r b) (slot_of 1 r b) (slot_of 0 r b)) (g 7 (omega arith))
       ∙ ap (λ x. f (slot_of 7 r c) x (slot_of 5 r b) (slot_of 4 r b) (slot_of 2 r b) (slot_of 1 r b) (slot_of 0 r b)) (g 6 (omega arith))
@@ -146,8 +163,10 @@ module _ (b c : ℕ → ℕ) where
       ∙ ap (λ x. f (slot_of 7 r c) (slot_of 6 r c) (slot_of 5 r c) (slot_of 4 r c) (slot_of 2 r c) x (slot_of 0 r b)) (g 1 (omega arith))
       ∙ ap (λ x. f (slot_of 7 r c) (slot_of 6 r c) (slot_of 5 r c) (slot_of 4 r c) (slot_of 2 r c) (slot_of 1 r c) x) (g 0 (omega arith))
 
-  row_same : (op : Op) (i : Insn) (len : ℕ) (r : Regs) → IsShaped i → Covers Same (ranges_row op i r).read → Covers Same (ranges_row op i r).write → row op i len r b ≡ row op i len r c
-  unfolding loaded_address signed_multiplied multiplied_by moved moved_with_zeros moved_with_sign exchanged pushed popped frame_left flags_popped string
+  row_same : (op : Op) (i : Insn) (len : ℕ) (r : Regs) → IsShaped i → Covers Same (ranges_row op i r).read
+      → Covers Same (ranges_row op i r).write → row op i len r b ≡ row op i len r c
+  unfolding loaded_address signed_multiplied multiplied_by moved moved_with_zeros moved_with_sign exchanged pushed popped
+      frame_left flags_popped string
   row_same Add i len r s h k = arithmetic_same i len r h k
   row_same Or i len r s h k = arithmetic_same i len r h k
   row_same Adc i len r s h k = arithmetic_same i len r h k
@@ -173,18 +192,22 @@ module _ (b c : ℕ → ℕ) where
   row_same Idiv i len r s h k = divided_same true i len r h
   row_same Mov i len r s h k = ap (λ x. done (to_destination i.a i.size x (eip_past len r))) (source_same i.b i.imm i.size r h)
   row_same Movzx i len r s h k = ap (λ x. Done (kept_in i.a Long x (eip_past len r)) Nothing) (value_same i.b i.size r h)
-  row_same Movsx i len r s h k = ap (λ x. Done (kept_in i.a Long (sign_extended 32 i.size x) (eip_past len r)) Nothing) (value_same i.b i.size r h)
+  row_same Movsx i len r s h k =
+      ap (λ x. Done (kept_in i.a Long (sign_extended 32 i.size x) (eip_past len r)) Nothing) (value_same i.b i.size r h)
   row_same Lea i len r s h k = refl
   row_same Xchg i len r s h k =
-      two (λ x y. Done (kept_in i.b i.size x (to_destination i.a i.size y (eip_past len r)).0) (to_destination i.a i.size y (eip_past len r)).1) _ _ _ _ (value_same i.a i.size r k) (value_same i.b i.size r h)
+      two (λ x y. Done (kept_in i.b i.size x (to_destination i.a i.size y (eip_past len r)).0)
+      (to_destination i.a i.size y (eip_past len r)).1) _ _ _ _ (value_same i.a i.size r k) (value_same i.b i.size r h)
   row_same Push i len r s h k = ap (λ x. pushed_number x (eip_past len r)) (source_same i.a i.imm Long r h)
-  row_same Pop i len r s h k = ap (λ x. done (to_destination i.a Long x (eip_past len (with_whole 4 (esp_above 4 r) r)))) (number_same Long (stack_of r) h)
+  row_same Pop i len r s h k =
+      ap (λ x. done (to_destination i.a Long x (eip_past len (with_whole 4 (esp_above 4 r) r)))) (number_same Long (stack_of r) h)
   row_same Pusha i len r s h k = refl
   row_same Popa i len r s h k = all_popped_same len r h
   row_same Cwde i len r s h k = refl
   row_same Cdq i len r s h k = refl
   row_same Leave i len r s h k =
-      ap (λ x. Done (eip_past len (with_whole 5 x (with_whole 4 ((slice_index r.r 5 + 4) % 2 ^ 32) r))) Nothing) (number_same Long (slice_index r.r 5) h)
+      ap (λ x. Done (eip_past len (with_whole 5 x (with_whole 4 ((slice_index r.r 5 + 4) % 2 ^ 32) r))) Nothing)
+      (number_same Long (slice_index r.r 5) h)
   row_same Nop i len r s h k = refl
   row_same Jcc i len r s h k = refl
   row_same Setcc i len r s h k = refl
@@ -192,32 +215,44 @@ module _ (b c : ℕ → ℕ) where
   row_same Call i len r s h k = refl
   row_same Ud2 i len r s h k = refl
   row_same Movs i len r s h k =
-      turn_same (is_over i r) _ (λ x. Done (counted i.rep (slice_index r.r 1) len (turn Movs i.size r b).0) (One (store (slice_index r.r 7) i.size x))) i.size (slice_index r.r 6) h
+      turn_same (is_over i r) _
+      (λ x. Done (counted i.rep (slice_index r.r 1) len (turn Movs i.size r b).0) (One (store (slice_index r.r 7) i.size x))) i.size
+      (slice_index r.r 6) h
   row_same Stos i len r s h k = refl
   row_same Lods i len r s h k =
-      turn_same (is_over i r) _ (λ x. Done (counted i.rep (slice_index r.r 1) len (moved_on 6 i.size (with_register i.size 0 x r))) Nothing) i.size (slice_index r.r 6) h
+      turn_same (is_over i r) _ (λ x. Done (counted i.rep (slice_index r.r 1) len (moved_on 6 i.size (with_register i.size 0 x r))) Nothing)
+      i.size (slice_index r.r 6) h
   row_same Clc i len r s h k = refl
   row_same Stc i len r s h k = refl
   row_same Cld i len r s h k = refl
   row_same Std i len r s h k = refl
   row_same PushFlags i len r s h k = refl
   row_same PopFlags i len r s h k =
-      ap (λ x. if is_foreign x then (Stop FlagBits) else (Done (eip_past len (with_whole 4 (esp_above 4 r) (record r { flags = taken r.flags x }))) Nothing)) (number_same Long (stack_of r) h)
+      ap (λ x. if is_foreign x then (Stop FlagBits)
+      else (Done (eip_past len (with_whole 4 (esp_above 4 r) (record r { flags = taken r.flags x }))) Nothing)) (number_same
+      Long (stack_of r) h)
   row_same op i len r s h k = refl
 
-  user_row_same : (op : Op) (g : Selectors) (i : Insn) (len : ℕ) (r : Regs) → i.op ≡ op → IsShaped i → Covers Same (ranges_row op i r).read → Covers Same (ranges_row op i r).write
+  user_row_same : (op : Op) (g : Selectors) (i : Insn) (len : ℕ) (r : Regs) → i.op ≡ op → IsShaped i → Covers Same (ranges_row op i r).read
+      → Covers Same (ranges_row op i r).write
       → user_row op g i len r b ≡ user_row op g i len r c
   unfolding returned jumped_through called_through effect
-  user_row_same Return g i len r e s h k = ap (λ x. Done (gone_to x (with_whole 4 (esp_above (4 + i.imm) r) r)) Nothing) (number_same Long (stack_of r) h)
-  user_row_same JumpTo g i len r e s h k = ap (λ x. cond (is_place i.a) (Done (gone_to x r) Nothing) (Stop Unsupported)) (value_same i.a Long r h)
+  user_row_same Return g i len r e s h k =
+      ap (λ x. Done (gone_to x (with_whole 4 (esp_above (4 + i.imm) r) r)) Nothing) (number_same Long (stack_of r) h)
+  user_row_same JumpTo g i len r e s h k =
+      ap (λ x. cond (is_place i.a) (Done (gone_to x r) Nothing) (Stop Unsupported)) (value_same i.a Long r h)
   user_row_same CallTo g i len r e s h k =
-      ap (λ x. cond (is_place i.a) (Done (gone_to x (with_whole 4 (esp_below 4 r) r)) (One (store (esp_below 4 r) Long (eip_past len r).eip))) (Stop Unsupported)) (value_same i.a Long r h)
+      ap (λ x. cond (is_place i.a)
+      (Done (gone_to x (with_whole 4 (esp_below 4 r) r)) (One (store (esp_below 4 r) Long (eip_past len r).eip))) (Stop Unsupported))
+      (value_same i.a Long r h)
   user_row_same ReadSeg g i len r e s h k = refl
   user_row_same PushSeg g i len r e s h k = refl
   user_row_same op g i len r e s h k =
-      row_same i.op i len r s (subst (λ (o : Op). Covers Same (ranges_row o i r).read) (sym e) h) (subst (λ (o : Op). Covers Same (ranges_row o i r).write) (sym e) k)
+      row_same i.op i len r s (subst (λ (o : Op). Covers Same (ranges_row o i r).read) (sym e) h)
+      (subst (λ (o : Op). Covers Same (ranges_row o i r).write) (sym e) k)
 
-  user_same : (g : Selectors) (i : Insn) (len : ℕ) (r : Regs) → IsShaped i → Covers Same (ranges_of i r).read → Covers Same (ranges_of i r).write → user_effect g i len r b ≡ user_effect g i len r c
+  user_same : (g : Selectors) (i : Insn) (len : ℕ) (r : Regs) → IsShaped i → Covers Same (ranges_of i r).read
+      → Covers Same (ranges_of i r).write → user_effect g i len r b ≡ user_effect g i len r c
   unfolding user_effect ranges_of
   user_same g i len r s h k = user_row_same i.op g i len r refl s h k
 

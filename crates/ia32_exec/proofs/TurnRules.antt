@@ -66,7 +66,8 @@ beside : (at v x : ℕ) (b : ℕ → ℕ) → x + 4 ≤ at → number_at (writte
 beside at v x b l =
     let m : ℕ → ℕ = written (store at Long v) b in
     four (m x) (m (x + 1)) (m (x + 2)) (m (x + 3)) (b x) (b (x + 1)) (b (x + 2)) (b (x + 3))
-    (outside at v x b (inl (omega arith))) (outside at v (x + 1) b (inl (omega arith))) (outside at v (x + 2) b (inl (omega arith))) (outside at v (x + 3) b (inl (omega arith)))
+    (outside at v x b (inl (omega arith))) (outside at v (x + 1) b (inl (omega arith))) (outside at v (x + 2) b (inl (omega arith)))
+    (outside at v (x + 3) b (inl (omega arith)))
 
 written-last : (ws : List Store) (w : Store) (b : ℕ → ℕ) → all_written (ws ++ (w ∷ [])) b ≡ written w (all_written ws b)
 written-last [] w b = refl
@@ -80,7 +81,8 @@ longs_back (suc n) at vs b k l s =
     ap (λ x. number_at x Long (at + 4 * k)) (written-last (longs_to n at vs) (store (at + 4 * n) Long (slice_index vs n)) b)
     ∙ elim (eqb_tells k n) [
       | inl is ↦
-          let P : ℕ → Type 0 = λ j. number_at (written (store (at + 4 * j) Long (slice_index vs j)) m) Long (at + 4 * k) ≡ slice_index vs k in
+          let P : ℕ → Type 0 =
+          λ j. number_at (written (store (at + 4 * j) Long (slice_index vs j)) m) Long (at + 4 * k) ≡ slice_index vs k in
           subst P is.1 (read_back (at + 4 * k) (slice_index vs k) m s)
       | inr isnt ↦
           let under : k < n = omega (arith, isnt.1) in
@@ -147,7 +149,8 @@ push_pop push pop n k l m e f g w s =
     set_set 4 at _ r.r ∙ ap (slice_set r.r 4) up ∙ set_same 4 r.r in
     let pushed_state : RegsAndBytes = record { regs = with_whole 4 at (eip_past k r); bytes = b } in
     let first : after push k m ≡ pushed_state = after_row push Push k m e in
-    let second : after pop l pushed_state ≡ committed (popped pop l pushed_state.regs b) pushed_state = after_row pop Pop l pushed_state f in
+    let second : after pop l pushed_state ≡ committed (popped pop l pushed_state.regs b) pushed_state =
+    after_row pop Pop l pushed_state f in
     ap (λ x. (after pop l x).regs) first ∙ ap (λ x. x.regs) second ∙ landed pop n l v pushed_state g read ∙ ended l n v k r at same
 
 -- what holds of eight numbers one by one holds of a list of eight
@@ -169,10 +172,12 @@ state g e f b = record { regs = file g e f; bytes = b }
 abbrev AllBack : ℕ → ℕ → ℕ → Flags → (ℕ → ℕ) → List ℕ → Type 0
 AllBack k l e f b g =
     ((j : ℕ) → slice_index g j < 2 ^ 32) →
-    (committed (all_popped l (committed (all_pushed k (file g e f)) (state g e f b)).regs (committed (all_pushed k (file g e f)) (state g e f b)).bytes) (state g e f b)).regs
+    (committed (all_popped l (committed (all_pushed k (file g e f)) (state g e f b)).regs
+    (committed (all_pushed k (file g e f)) (state g e f b)).bytes) (state g e f b)).regs
     ≡ eip_past l (eip_past k (file g e f))
 
-all_back : (k l e : ℕ) (f : Flags) (b : ℕ → ℕ) (g0 g1 g2 g3 g4 g5 g6 g7 : ℕ) → AllBack k l e f b (g0 ∷ g1 ∷ g2 ∷ g3 ∷ g4 ∷ g5 ∷ g6 ∷ g7 ∷ [])
+all_back : (k l e : ℕ) (f : Flags) (b : ℕ → ℕ) (g0 g1 g2 g3 g4 g5 g6 g7 : ℕ)
+    → AllBack k l e f b (g0 ∷ g1 ∷ g2 ∷ g3 ∷ g4 ∷ g5 ∷ g6 ∷ g7 ∷ [])
 unfolding all_pushed all_popped
 all_back k l e f b g0 g1 g2 g3 g4 g5 g6 g7 small =
     let vs : List ℕ = g7 ∷ g6 ∷ g5 ∷ g4 ∷ g3 ∷ g2 ∷ g1 ∷ g0 ∷ [] in
@@ -181,9 +186,11 @@ all_back k l e f b g0 g1 g2 g3 g4 g5 g6 g7 small =
     (longs_back 8 at vs b 7 (omega arith) (small 0)) (longs_back 8 at vs b 6 (omega arith) (small 1))
     (longs_back 8 at vs b 5 (omega arith) (small 2)) (longs_back 8 at vs b 4 (omega arith) (small 3))
     (back_up 32 g4 (omega arith) (small 4))
-    (longs_back 8 at vs b 2 (omega arith) (small 5)) (longs_back 8 at vs b 1 (omega arith) (small 6)) (longs_back 8 at vs b 0 (omega arith) (small 7)))
+    (longs_back 8 at vs b 2 (omega arith) (small 5)) (longs_back 8 at vs b 1 (omega arith) (small 6))
+    (longs_back 8 at vs b 0 (omega arith) (small 7)))
 
-as_committed : (l : ℕ) (q m : RegsAndBytes) → (committed (all_popped l q.regs q.bytes) q).regs ≡ (committed (all_popped l q.regs q.bytes) m).regs
+as_committed : (l : ℕ) (q m : RegsAndBytes) → (committed (all_popped l q.regs q.bytes) q).regs
+    ≡ (committed (all_popped l q.regs q.bytes) m).regs
 unfolding all_popped
 as_committed l q m = refl
 
@@ -225,7 +232,8 @@ turn_eip _ s r b h = absurd h
 -- a turn leaves ECX alone, and does not look at it or at EIP
 turn_without : (o : Op) (s : Size) (n e e' : ℕ) (f : Flags) (b : ℕ → ℕ) (g0 g1 g2 g3 g4 g5 g6 g7 : ℕ) → IsString o →
     turn o s (file (g0 ∷ n ∷ g2 ∷ g3 ∷ g4 ∷ g5 ∷ g6 ∷ g7 ∷ []) e f) b
-    ≡ (let t = turn o s (file (g0 ∷ g1 ∷ g2 ∷ g3 ∷ g4 ∷ g5 ∷ g6 ∷ g7 ∷ []) e' f) b in let p : Regs × Stores = (file (slice_set t.0.r 1 n) e f, t.1) in p)
+    ≡ (let t = turn o s (file (g0 ∷ g1 ∷ g2 ∷ g3 ∷ g4 ∷ g5 ∷ g6 ∷ g7 ∷ []) e' f) b in
+    let p : Regs × Stores = (file (slice_set t.0.r 1 n) e f, t.1) in p)
 unfolding register_value with_register
 turn_without Movs s n e e' f b g0 g1 g2 g3 g4 g5 g6 g7 h = refl
 turn_without Stos Byte n e e' f b g0 g1 g2 g3 g4 g5 g6 g7 h = refl
@@ -254,7 +262,8 @@ turned_bytes o s g e f b = all_written (list_of (turned o s g e f b).1) b
 
 -- without REP
 single_step : (i : Insn) (o : Op) (len : ℕ) (g : List ℕ) (e : ℕ) (f : Flags) (b : ℕ → ℕ) → i.op ≡ o → IsString o →
-    after (record i { rep = false }) len (state g e f b) ≡ state (turned o i.size g e f b).0.r ((e + len) % 2 ^ 32) f (turned_bytes o i.size g e f b)
+    after (record i { rep = false }) len (state g e f b) ≡ state (turned o i.size g e f b).0.r ((e + len) % 2 ^ 32) f
+    (turned_bytes o i.size g e f b)
 unfolding string
 single_step i o len g e f b is h =
     let r : Regs = file g e f in
@@ -293,12 +302,15 @@ repeated_step i o n len e e' f b is h g0 g1 g2 g3 g4 g5 g6 g7 =
     let t : Regs × Stores = turn o i.size r b in
     after_row j o len m is ∙ ap (λ x. committed x m) (string_row o j len r b h)
     ∙ ap (λ c. committed (cond c (Done (eip_past len r) Nothing) (Done (counted true (suc n) len t.0) t.1)) m) (isnt_zero n)
-    ∙ ap (λ (x : Regs × Stores). committed (Done (counted true (suc n) len x.0) x.1) m) (turn_without o i.size (suc n) e e' f b g0 g1 g2 g3 g4 g5 g6 g7 h)
+    ∙ ap (λ (x : Regs × Stores). committed (Done (counted true (suc n) len x.0) x.1) m)
+    (turn_without o i.size (suc n) e e' f b g0 g1 g2 g3 g4 g5 g6 g7 h)
 
-repeated_of : (i : Insn) (o : Op) (n len e e' : ℕ) (f : Flags) (b : ℕ → ℕ) (g : List ℕ) → i.op ≡ o → IsString o → length g ≡ 8 → repeated i o n len e e' f b g
+repeated_of : (i : Insn) (o : Op) (n len e e' : ℕ) (f : Flags) (b : ℕ → ℕ) (g : List ℕ) → i.op ≡ o → IsString o → length g ≡ 8
+    → repeated i o n len e e' f b g
 repeated_of i o n len e e' f b g is h eight = as_eight (repeated i o n len e e' f b) (repeated_step i o n len e e' f b is h) g eight
 
-turned_length : (o : Op) (s : Size) (e : ℕ) (f : Flags) (b : ℕ → ℕ) (g : List ℕ) → IsString o → length g ≡ 8 → length (turned o s g e f b).0.r ≡ 8
+turned_length : (o : Op) (s : Size) (e : ℕ) (f : Flags) (b : ℕ → ℕ) (g : List ℕ) → IsString o → length g ≡ 8
+    → length (turned o s g e f b).0.r ≡ 8
 turned_length o s e f b g h eight =
     as_eight (λ x. length (turned o s x e f b).0.r ≡ 8) (λ g0 g1 g2 g3 g4 g5 g6 g7. turn_eight o s e f b g0 g1 g2 g3 g4 g5 g6 g7 h) g eight
 
@@ -306,8 +318,10 @@ record EndsCountedOut (len e : ℕ) (single many : RegsAndBytes) : Type 0 where
   out : IsCountedOut single many
   passes : many.regs.eip ≡ (e + len) % 2 ^ 32
 
-many_turns : (n : ℕ) (i : Insn) (o : Op) (len single : ℕ) (g : List ℕ) (e e' : ℕ) (f : Flags) (b : ℕ → ℕ) → i.op ≡ o → IsString o → length g ≡ 8 →
-    EndsCountedOut len e (turns (suc n) (record i { rep = false }) single (state g e' f b)) (turns (suc n) (record i { rep = true }) len (state (slice_set g 1 (suc n)) e f b))
+many_turns : (n : ℕ) (i : Insn) (o : Op) (len single : ℕ) (g : List ℕ) (e e' : ℕ) (f : Flags) (b : ℕ → ℕ) → i.op ≡ o
+    → IsString o → length g ≡ 8 →
+    EndsCountedOut len e (turns (suc n) (record i { rep = false }) single (state g e' f b))
+    (turns (suc n) (record i { rep = true }) len (state (slice_set g 1 (suc n)) e f b))
 many_turns zero i o len single g e e' f b is h eight =
     let T : List ℕ = (turned o i.size g e' f b).0.r in
     let c : ℕ → ℕ = turned_bytes o i.size g e' f b in
@@ -328,25 +342,34 @@ many_turns (suc n) i o len single g e e' f b is h eight =
     let x : Regs = file (slice_set T 1 (suc (suc n))) e f in
     let right : after (record i { rep = true }) len (state (slice_set g 1 (suc (suc n))) e f b) ≡ next =
     repeated_of i o (suc n) len e e' f b g is h eight
-    ∙ ap (λ t. record { regs = cond t (eip_past len (with_whole 1 (suc (suc n) - 1) x)) (with_whole 1 (suc (suc n) - 1) x); bytes = c }) (isnt_one n)
+    ∙ ap (λ t. record {
+      regs = cond t (eip_past len (with_whole 1 (suc (suc n) - 1) x)) (with_whole 1 (suc (suc n) - 1) x);
+      bytes = c;
+    }) (isnt_one n)
     ∙ ap (λ k. state (slice_set (slice_set T 1 (suc (suc n))) 1 k) e f c) (one_less (suc n))
     ∙ ap (λ y. state y e f c) (set_set 1 (suc (suc n)) (suc n) T) in
-    let P : RegsAndBytes → Type 0 = λ x. EndsCountedOut len e (turns (suc n) (record i { rep = false }) single x) (turns (suc n) (record i { rep = true }) len (after (record i { rep = true }) len (state (slice_set g 1 (suc (suc n))) e f b))) in
-    let Q : RegsAndBytes → Type 0 = λ x. EndsCountedOut len e (turns (suc n) (record i { rep = false }) single one) (turns (suc n) (record i { rep = true }) len x) in
+    let P : RegsAndBytes → Type 0 = λ x. EndsCountedOut len e (turns (suc n) (record i { rep = false }) single x)
+    (turns (suc n) (record i { rep = true }) len (after (record i { rep = true }) len (state (slice_set g 1 (suc (suc n))) e f b))) in
+    let Q : RegsAndBytes → Type 0 =
+    λ x. EndsCountedOut len e (turns (suc n) (record i { rep = false }) single one) (turns (suc n) (record i { rep = true }) len x) in
     subst P (sym left) (subst Q (sym right)
     (many_turns n i o len single T e ((e' + single) % 2 ^ 32) f c is h (turned_length o i.size e' f b g h eight)))
 
-all_turns : (i : Insn) (n len single : ℕ) (m : RegsAndBytes) → IsString i.op → i.rep ≡ true → IsWhole m.regs → slice_index m.regs.r 1 ≡ suc n →
+all_turns : (i : Insn) (n len single : ℕ) (m : RegsAndBytes) → IsString i.op → i.rep ≡ true → IsWhole m.regs
+    → slice_index m.regs.r 1 ≡ suc n →
     EndsCountedOut len m.regs.eip (turns (suc n) (record i { rep = false }) single m) (turns (suc n) i len m)
 all_turns i n len single m h rep w ecx =
     let g : List ℕ = m.regs.r in
     let same : slice_set g 1 (suc n) ≡ g = ap (slice_set g 1) (sym ecx) ∙ set_same 1 g in
     let P : List ℕ → Type 0 = λ x.
-    EndsCountedOut len m.regs.eip (turns (suc n) (record i { rep = false }) single m) (turns (suc n) (record i { rep = true }) len (state x m.regs.eip m.regs.flags m.bytes)) in
-    let Q : Bool → Type 0 = λ x. EndsCountedOut len m.regs.eip (turns (suc n) (record i { rep = false }) single m) (turns (suc n) (record i { rep = x }) len m) in
+    EndsCountedOut len m.regs.eip (turns (suc n) (record i { rep = false }) single m)
+    (turns (suc n) (record i { rep = true }) len (state x m.regs.eip m.regs.flags m.bytes)) in
+    let Q : Bool → Type 0 = λ x. EndsCountedOut len m.regs.eip (turns (suc n) (record i { rep = false }) single m)
+    (turns (suc n) (record i { rep = x }) len m) in
     subst Q (sym rep) (subst P same (many_turns n i i.op len single g m.regs.eip m.regs.eip m.regs.flags m.bytes refl h w.eight))
 
-pub counted_out : (i : Insn) (n len single : ℕ) (m : RegsAndBytes) → IsString i.op → i.rep ≡ true → IsWhole m.regs → slice_index m.regs.r 1 ≡ suc n →
+pub counted_out : (i : Insn) (n len single : ℕ) (m : RegsAndBytes) → IsString i.op → i.rep ≡ true → IsWhole m.regs
+    → slice_index m.regs.r 1 ≡ suc n →
     IsCountedOut (turns (suc n) (record i { rep = false }) single m) (turns (suc n) i len m)
 counted_out i n len single m h rep w ecx = (all_turns i n len single m h rep w ecx).out
 

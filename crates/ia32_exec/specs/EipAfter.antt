@@ -22,7 +22,8 @@ IsRepeated o i = IsString o × (i.rep ≡ true)
 
 -- past the instruction, at a direct branch further by its distance, or at a repeated string instruction where it was
 abbrev pub IsEipAfter : Op → Insn → ℕ → Regs → ℕ → Type 0
-IsEipAfter o i len r eip = (eip ≡ (r.eip + len) % 2 ^ 32) ⊎ ((IsBranch o × (eip ≡ ((r.eip + len) % 2 ^ 32 + i.imm) % 2 ^ 32)) ⊎ (IsRepeated o i × (eip ≡ r.eip)))
+IsEipAfter o i len r eip =
+    (eip ≡ (r.eip + len) % 2 ^ 32) ⊎ ((IsBranch o × (eip ≡ ((r.eip + len) % 2 ^ 32 + i.imm) % 2 ^ 32)) ⊎ (IsRepeated o i × (eip ≡ r.eip)))
 
 abbrev pub Leads : Op → Insn → ℕ → Regs → Outcome → Type 0
 Leads o i len r (Done after stores) = IsEipAfter o i len r after.eip

@@ -11,4 +11,5 @@ use Rattle.ia32_exec.specs.UserEffect.{user_effect}
 abbrev pub SameOverRanges : Type 0
 SameOverRanges =
     (b c : ℕ → ℕ) (g : Selectors) (i : Insn) (len : ℕ) (r : Regs)
-    → IsShaped i → Covers (λ at. b at ≡ c at) (ranges_of i r).read → Covers (λ at. b at ≡ c at) (ranges_of i r).write → user_effect g i len r b ≡ user_effect g i len r c
+    → IsShaped i → Covers (λ at. b at ≡ c at) (ranges_of i r).read → Covers (λ at. b at ≡ c at) (ranges_of i r).write
+    → user_effect g i len r b ≡ user_effect g i len r c

@@ -28,11 +28,13 @@ disp_reads : (mode : ℕ) → Reads 4 (disp_at mode)
 unfolding disp_at
 disp_reads mode =
     cond_reads 4 _ _ _ (more_reads 0 4 _ (omega arith) (success_reads _))
-    (cond_reads 4 _ _ _ (more_reads 1 4 _ (omega arith) (bind_reads 1 0 _ _ byte_reads (λ b. success_reads _))) (bind_reads 4 0 _ _ long_reads (λ d. success_reads _)))
+    (cond_reads 4 _ _ _ (more_reads 1 4 _ (omega arith) (bind_reads 1 0 _ _ byte_reads (λ b. success_reads _)))
+    (bind_reads 4 0 _ _ long_reads (λ d. success_reads _)))
 
 memory_reads : (m : ℕ) → Reads 5 (memory_at m)
 unfolding memory_at
-memory_reads m = bind_reads 1 4 _ _ (base_reads m) (λ at. bind_reads 4 0 _ _ (disp_reads (cond (is_none at.base) 2 (mod_of m))) (λ d. success_reads _))
+memory_reads m =
+    bind_reads 1 4 _ _ (base_reads m) (λ at. bind_reads 4 0 _ _ (disp_reads (cond (is_none at.base) 2 (mod_of m))) (λ d. success_reads _))
 
 pub rm_reads : (m : ℕ) → Reads 5 (rm_at m)
 unfolding rm_at
@@ -86,7 +88,8 @@ addressing_reads addressing.Nothing e = success_reads _
 addressing_reads addressing.Offset e = bind_reads 4 0 _ _ long_reads (λ d. success_reads _)
 addressing_reads (addressing.Modrm form) e =
     let s = and_parts (nat_lt (modrm_witness form) 256) (has_modrm form (modrm_witness form)) e in
-    bind_reads 1 5 _ _ (where_reads (has_modrm form) (modrm_witness form) (ltb-true _ _ s.0) s.1) (λ m. bind_reads 5 0 _ _ (rm_reads m) (λ at. success_reads _))
+    bind_reads 1 5 _ _ (where_reads (has_modrm form) (modrm_witness form) (ltb-true _ _ s.0) s.1)
+    (λ m. bind_reads 5 0 _ _ (rm_reads m) (λ at. success_reads _))
 
 pub immediate_reads : (i : Immediate) → Reads (immediate_most i) (immediate_at i)
 unfolding immediate_at
@@ -114,8 +117,10 @@ form_reads form e =
     let a = addressing_most form.addressing in
     let i = immediate_most form.immediate in
     more_reads (l + (1 + (a + (i + 0)))) (form_most form) _ (omega arith)
-    (bind_reads l (1 + (a + (i + 0))) _ _ (lead_reads form.lead) (λ _. bind_reads 1 (a + (i + 0)) _ _ (where_reads (has_code form) (first_code form) (ltb-true _ _ c.0) c.1)
-    (λ code. bind_reads a (i + 0) _ _ (addressing_reads form.addressing s.1) (λ at. bind_reads i 0 _ _ (immediate_reads form.immediate) (λ imm. success_reads _)))))
+    (bind_reads l (1 + (a + (i + 0))) _ _ (lead_reads form.lead)
+    (λ _. bind_reads 1 (a + (i + 0)) _ _ (where_reads (has_code form) (first_code form) (ltb-true _ _ c.0) c.1)
+    (λ code. bind_reads a (i + 0) _ _ (addressing_reads form.addressing s.1)
+    (λ at. bind_reads i 0 _ _ (immediate_reads form.immediate) (λ imm. success_reads _)))))
 
 -- no bytes are not read
 pub none_read : (form : Form) (lead : Lead) (x : Parts) (rest : List ℕ) → (lead_at lead >>= λ _. coded_at form) [] ≡ Ok (x, rest) → ⊥

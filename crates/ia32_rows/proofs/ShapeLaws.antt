@@ -29,7 +29,8 @@ below_8 m = omega arith
 abbrev memory_with : Base → ℕ × ℕ → Operand × ℕ
 memory_with place d = (operand.Memory (record { base = place.base; index = place.index; scale = place.scale; disp = d.0 }), d.1)
 
-memory_inner : (place : Base) (mode : ℕ) (bytes : List ℕ) (x : Operand × ℕ) (rest : List ℕ) → (disp_at mode >>= λ d. success (memory_with place d)) bytes ≡ Ok (x, rest) → IsNamed x.0
+memory_inner : (place : Base) (mode : ℕ) (bytes : List ℕ) (x : Operand × ℕ) (rest : List ℕ)
+    → (disp_at mode >>= λ d. success (memory_with place d)) bytes ≡ Ok (x, rest) → IsNamed x.0
 memory_inner place mode bytes x rest e =
     let b = and_then_ok {A = ℕ × ℕ} (disp_at mode bytes) (λ d. success (memory_with place d)) x rest e in
     let same : memory_with place b.0 ≡ x = (same_read (memory_with place b.0) x b.1 rest b.3).0 in
@@ -39,10 +40,12 @@ memory_inner place mode bytes x rest e =
 memory_named : (m : ℕ) (bytes : List ℕ) (x : Operand × ℕ) (rest : List ℕ) → memory_at m bytes ≡ Ok (x, rest) → IsNamed x.0
 unfolding memory_at
 memory_named m bytes x rest e =
-    let a = and_then_ok {A = Base} (base_at m bytes) (λ place. disp_at (cond (is_none place.base) 2 (mod_of m)) >>= λ d. success (memory_with place d)) x rest e in
+    let a = and_then_ok {A = Base} (base_at m bytes)
+    (λ place. disp_at (cond (is_none place.base) 2 (mod_of m)) >>= λ d. success (memory_with place d)) x rest e in
     memory_inner a.0 (cond (is_none a.0.base) 2 (mod_of m)) a.1 x rest a.3
 
-rm_named_by : (b : Bool) (m : ℕ) (bytes : List ℕ) (x : Operand × ℕ) (rest : List ℕ) → cond b (success (operand.Register (rm_of m), 0)) (memory_at m) bytes ≡ Ok (x, rest) → IsNamed x.0
+rm_named_by : (b : Bool) (m : ℕ) (bytes : List ℕ) (x : Operand × ℕ) (rest : List ℕ) → cond b (success (operand.Register (rm_of m), 0))
+    (memory_at m) bytes ≡ Ok (x, rest) → IsNamed x.0
 rm_named_by true m bytes x rest e = subst (λ (y : Operand × ℕ). IsNamed y.0) (same_read _ x bytes rest e).0 (below_8 m)
 rm_named_by false m bytes x rest e = memory_named m bytes x rest e
 
@@ -60,7 +63,8 @@ Located_of at = IsLocated at.reg at.rm
 
 addressing_located : (a : Addressing) (bytes : List ℕ) (x : Located) (rest : List ℕ) → addressing_at a bytes ≡ Ok (x, rest) → Located_of x
 unfolding addressing_at
-addressing_located addressing.Nothing bytes x rest e = subst Located_of (same_read _ x bytes rest e).0 (record { reg_below = omega arith; rm_named = tt })
+addressing_located addressing.Nothing bytes x rest e =
+    subst Located_of (same_read _ x bytes rest e).0 (record { reg_below = omega arith; rm_named = tt })
 addressing_located addressing.Offset bytes x rest e =
     let a = and_then_ok (long_at bytes) _ x rest e in
     subst Located_of (same_read _ x _ rest a.3).0 (record { reg_below = omega arith; rm_named = tt })

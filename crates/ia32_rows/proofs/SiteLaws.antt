@@ -35,7 +35,8 @@ each P (x ∷ xs) h (suc k) d lt = each P xs h.1 k d (omega arith)
 
 behind : (xs ys : List Row) (k : ℕ) (d : Row) → get_or (xs ++ ys) (length xs + k) d ≡ get_or ys k d
 behind [] ys k d = ap (λ n. get_or ys n d) (zero-add k)
-behind (x ∷ xs) ys k d = let e : suc (length xs) + k ≡ suc (length xs + k) = omega arith in ap (λ n. get_or (x ∷ (xs ++ ys)) n d) e ∙ behind xs ys k d
+behind (x ∷ xs) ys k d = let e : suc (length xs) + k ≡ suc (length xs + k) =
+    omega arith in ap (λ n. get_or (x ∷ (xs ++ ys)) n d) e ∙ behind xs ys k d
 
 before : (xs ys : List Row) (k : ℕ) (d : Row) → k < length xs → get_or (xs ++ ys) k d ≡ get_or xs k d
 before [] ys k d lt = absurd (omega arith)
@@ -61,7 +62,8 @@ module _ (row : Row) (c : Contains rows row) (kind : SiteKind) (sensitive : kind
   unfolding rows
   not_plain lt =
       let at : get_or plain_rows c.0 row ≡ row = sym (before plain_rows (map site_row sites) c.0 row lt) ∙ c.2 in
-      let none : kind_of row.op ≡ None = none_is (kind_of row.op) (ap has_no_kind (sym at) ∙ AllPass-from_list_all has_no_kind plain_rows plain_rows_have_none c.0 row lt) in
+      let none : kind_of row.op ≡ None =
+      none_is (kind_of row.op) (ap has_no_kind (sym at) ∙ AllPass-from_list_all has_no_kind plain_rows plain_rows_have_none c.0 row lt) in
       absurd (cc (none, sensitive))
 
   place : ℕ
@@ -75,9 +77,11 @@ module _ (row : Row) (c : Contains rows row) (kind : SiteKind) (sensitive : kind
         | inr le ↦
             let k : length plain_rows + place ≡ c.0 = omega (arith, le) in
             let lt : place < length sites = omega (arith, c.1, le, length-append plain_rows (map site_row sites), mapped_length sites) in
-            let at : (get_or sites place (kind, row)).1 ≡ row = sym (mapped sites place (kind, row)) ∙ sym (behind plain_rows (map site_row sites) place row) ∙ ap (λ n. get_or rows n row) k ∙ c.2 in
+            let at : (get_or sites place (kind, row)).1 ≡ row = sym (mapped sites place (kind, row))
+            ∙ sym (behind plain_rows (map site_row sites) place row) ∙ ap (λ n. get_or rows n row) k ∙ c.2 in
             let of_kind = each OfKind sites sites_have_kinds place (kind, row) lt in
-            let same : (get_or sites place (kind, row)).0 ≡ kind = some_is _ _ (sym of_kind ∙ ap (λ (r : Row). kind_of r.op) at ∙ sensitive) in
+            let same : (get_or sites place (kind, row)).0 ≡ kind =
+            some_is _ _ (sym of_kind ∙ ap (λ (r : Row). kind_of r.op) at ∙ sensitive) in
             (place, lt, pair_is (get_or sites place (kind, row)) (kind, row) same at)
       ] where
         some_is : (a b : SiteKind) → Some a ≡ Some b → a ≡ b
@@ -86,12 +90,14 @@ module _ (row : Row) (c : Contains rows row) (kind : SiteKind) (sensitive : kind
         pair_is : (s t : SiteKind × Row) → s.0 ≡ t.0 → s.1 ≡ t.1 → s ≡ t
         pair_is (a, r) (b, q) e f = cc (e, f)
 
-pub site_kinds : (bytes : List ℕ) (insn : Insn) (kind : SiteKind) → Spells bytes insn → (sensitive_kind insn ≡ Some kind) ↔ IsSite bytes insn kind
+pub site_kinds : (bytes : List ℕ) (insn : Insn) (kind : SiteKind) → Spells bytes insn
+    → (sensitive_kind insn ≡ Some kind) ↔ IsSite bytes insn kind
 site_kinds bytes insn kind s =
     let op = op_of insn s.row s.parts s.by_row.means in (
       λ e. record { row = s.row; listed = is_listed s.row s.listed kind (ap kind_of (sym op) ∙ e); parts = s.parts; by_row = s.by_row },
       λ site.
           let o = op_of insn site.row site.parts site.by_row.means in
-          let at : kind_of (get_or sites site.listed.0 (kind, site.row)).1.op ≡ Some (get_or sites site.listed.0 (kind, site.row)).0 = each OfKind sites sites_have_kinds site.listed.0 (kind, site.row) site.listed.1 in
+          let at : kind_of (get_or sites site.listed.0 (kind, site.row)).1.op ≡ Some (get_or sites site.listed.0 (kind, site.row)).0 =
+          each OfKind sites sites_have_kinds site.listed.0 (kind, site.row) site.listed.1 in
           ap kind_of o ∙ subst (λ (t : SiteKind × Row). kind_of t.1.op ≡ Some t.0) site.listed.2 at,
     )

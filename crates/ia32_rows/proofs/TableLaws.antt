@@ -37,12 +37,15 @@ pub refused_table : IsTable (λ (r : RefusedRow). r.form) refused_rows
 unfolding refused_rows
 refused_table = record { work = refl; differ = refl; short = refl }
 
-apart_below : (fs : List Form) → all_apart fs ≡ true → (i j : ℕ) (d e : Form) → i < j → j < length fs → apart (get_or fs i d) (get_or fs j e) ≡ true
+apart_below : (fs : List Form) → all_apart fs ≡ true → (i j : ℕ) (d e : Form) → i < j → j < length fs
+    → apart (get_or fs i d) (get_or fs j e) ≡ true
 apart_below [] h i j d e p q = absurd (omega arith)
 apart_below (f ∷ fs) h zero zero d e p q = absurd (omega arith)
-apart_below (f ∷ fs) h zero (suc j) d e p q = AllPass-from_list_all (apart f) fs (and_parts (list_all (apart f) fs) (all_apart fs) h).0 j e (omega arith)
+apart_below (f ∷ fs) h zero (suc j) d e p q =
+    AllPass-from_list_all (apart f) fs (and_parts (list_all (apart f) fs) (all_apart fs) h).0 j e (omega arith)
 apart_below (f ∷ fs) h (suc i) zero d e p q = absurd (omega arith)
-apart_below (f ∷ fs) h (suc i) (suc j) d e p q = apart_below fs (and_parts (list_all (apart f) fs) (all_apart fs) h).1 i j d e (omega arith) (omega arith)
+apart_below (f ∷ fs) h (suc i) (suc j) d e p q =
+    apart_below fs (and_parts (list_all (apart f) fs) (all_apart fs) h).1 i j d e (omega arith) (omega arith)
 
 pub ok_not_outside : {A : Type 0} (r : Reading A) (x : A) (rest : List ℕ) → r ≡ Ok (x, rest) → r ≡ Err Outside → ⊥
 ok_not_outside r x rest p q = cc
@@ -62,7 +65,8 @@ module _ {R : Type 0} (form : R → Form) (table : List R) (laws : IsTable form 
   listed_form r c = form_at table c.0 r ∙ ap form c.2
 
   listed_pass : (test : Form → Bool) → list_all test (map form table) ≡ true → (r : R) → Contains table r → test (form r) ≡ true
-  listed_pass test all r c = ap test (sym (listed_form r c)) ∙ AllPass-from_list_all test (map form table) all c.0 (form r) (omega (arith, c.1, forms_length table))
+  listed_pass test all r c = ap test (sym (listed_form r c)) ∙ AllPass-from_list_all test (map form table) all c.0 (form r)
+      (omega (arith, c.1, forms_length table))
 
   pub listed_reads : (r : R) → Contains table r → Reads 11 (parts_at (form r))
   listed_reads r c =
@@ -76,7 +80,8 @@ module _ {R : Type 0} (form : R → Form) (table : List R) (laws : IsTable form 
       (apart_below (map form table) laws.differ c.0 d.0 (form r) (form s) lt (omega (arith, d.1, forms_length table))))
 
   -- Of two entries one is the other, or the other meets a wrong byte wherever the one reads.
-  pub one_or_outside : (r s : R) → Contains table r → Contains table s → (bytes : List ℕ) (x : Parts) (rest : List ℕ) → parts_at (form r) bytes ≡ Ok (x, rest) → (r ≡ s) ⊎ (parts_at (form s) bytes ≡ Err Outside)
+  pub one_or_outside : (r s : R) → Contains table r → Contains table s → (bytes : List ℕ) (x : Parts) (rest : List ℕ)
+      → parts_at (form r) bytes ≡ Ok (x, rest) → (r ≡ s) ⊎ (parts_at (form s) bytes ≡ Err Outside)
   one_or_outside r s c d bytes x rest e =
       elim (cases_lt c.0 d.0) [
         | inl lt ↦ inr ((are_apart (form r) (form s) (listed_apart r s c d lt)).left bytes x rest e)
@@ -89,7 +94,8 @@ module _ {R : Type 0} (form : R → Form) (table : List R) (laws : IsTable form 
       ]
 
   -- one entry alone reads the bytes
-  pub same_row : (r s : R) → Contains table r → Contains table s → (bytes : List ℕ) (x y : Parts) (rest left : List ℕ) → parts_at (form r) bytes ≡ Ok (x, rest) → parts_at (form s) bytes ≡ Ok (y, left) → r ≡ s
+  pub same_row : (r s : R) → Contains table r → Contains table s → (bytes : List ℕ) (x y : Parts) (rest left : List ℕ)
+      → parts_at (form r) bytes ≡ Ok (x, rest) → parts_at (form s) bytes ≡ Ok (y, left) → r ≡ s
   same_row r s c d bytes x y rest left e f =
       elim (one_or_outside r s c d bytes x rest e) [
         | inl h ↦ h
@@ -97,13 +103,15 @@ module _ {R : Type 0} (form : R → Form) (table : List R) (laws : IsTable form 
       ]
 
   -- what an entry reads stays when more bytes follow
-  pub more_follow : (r : R) → Contains table r → (bytes : List ℕ) (x : Parts) (rest : List ℕ) → parts_at (form r) bytes ≡ Ok (x, rest) → (more : List ℕ) → parts_at (form r) (bytes ++ more) ≡ Ok (x, rest ++ more)
+  pub more_follow : (r : R) → Contains table r → (bytes : List ℕ) (x : Parts) (rest : List ℕ) → parts_at (form r) bytes ≡ Ok (x, rest)
+      → (more : List ℕ) → parts_at (form r) (bytes ++ more) ≡ Ok (x, rest ++ more)
   more_follow r c bytes x rest e more =
       let t = (listed_reads r c).takes bytes x rest e in
       ap (parts_at (form r)) (ap (λ bs. bs ++ more) t.parts ∙ append_assoc t.front rest more) ∙ t.again (rest ++ more)
 
   -- at most one front of the bytes is read by an entry, by one alone and in one way
-  pub one_front : (r s : R) → Contains table r → Contains table s → (bytes : List ℕ) (x y : Parts) (rest left : List ℕ) → parts_at (form r) bytes ≡ Ok (x, rest) → parts_at (form s) bytes ≡ Ok (y, left) → (r ≡ s) × (x ≡ y) × (rest ≡ left)
+  pub one_front : (r s : R) → Contains table r → Contains table s → (bytes : List ℕ) (x y : Parts) (rest left : List ℕ)
+      → parts_at (form r) bytes ≡ Ok (x, rest) → parts_at (form s) bytes ≡ Ok (y, left) → (r ≡ s) × (x ≡ y) × (rest ≡ left)
   one_front r s c d bytes x y rest left e f =
       let same = same_row r s c d bytes x y rest left e f in
       let parts = same_read x y rest left (sym e ∙ ap (λ t. parts_at (form t) bytes) same ∙ f) in
@@ -112,16 +120,20 @@ module _ {R : Type 0} (form : R → Form) (table : List R) (laws : IsTable form 
 -- the same for the table of the instructions
 pub row_works : (r : Row) → Contains rows r → addressing_works r.form.addressing ≡ true
 row_works r c =
-    let w = ap form_works (sym (listed_form (λ (t : Row). t.form) rows rows_table r c)) ∙ AllPass-from_list_all form_works (map (λ (t : Row). t.form) rows) rows_table.work c.0 r.form (omega (arith, c.1, forms_length (λ (t : Row). t.form) rows rows_table rows)) in
+    let w = ap form_works (sym (listed_form (λ (t : Row). t.form) rows rows_table r c))
+    ∙ AllPass-from_list_all form_works (map (λ (t : Row). t.form) rows) rows_table.work c.0 r.form
+    (omega (arith, c.1, forms_length (λ (t : Row). t.form) rows rows_table rows)) in
     (and_parts _ (addressing_works r.form.addressing) w).1
 
 pub row_reads : (r : Row) → Contains rows r → Reads 11 (parts_at r.form)
 row_reads = listed_reads (λ (r : Row). r.form) rows rows_table
 
-pub row_follows : (r : Row) → Contains rows r → (bytes : List ℕ) (x : Parts) (rest : List ℕ) → parts_at r.form bytes ≡ Ok (x, rest) → (more : List ℕ) → parts_at r.form (bytes ++ more) ≡ Ok (x, rest ++ more)
+pub row_follows : (r : Row) → Contains rows r → (bytes : List ℕ) (x : Parts) (rest : List ℕ) → parts_at r.form bytes ≡ Ok (x, rest)
+    → (more : List ℕ) → parts_at r.form (bytes ++ more) ≡ Ok (x, rest ++ more)
 row_follows = more_follow (λ (r : Row). r.form) rows rows_table
 
-pub one_row : (r s : Row) → Contains rows r → Contains rows s → (bytes : List ℕ) (x y : Parts) (rest left : List ℕ) → parts_at r.form bytes ≡ Ok (x, rest) → parts_at s.form bytes ≡ Ok (y, left) → (r ≡ s) × (x ≡ y) × (rest ≡ left)
+pub one_row : (r s : Row) → Contains rows r → Contains rows s → (bytes : List ℕ) (x y : Parts) (rest left : List ℕ)
+    → parts_at r.form bytes ≡ Ok (x, rest) → parts_at s.form bytes ≡ Ok (y, left) → (r ≡ s) × (x ≡ y) × (rest ≡ left)
 one_row = one_front (λ (r : Row). r.form) rows rows_table
 
 pub one_insn : (r s : Row) (x y : Parts) → r ≡ s → x ≡ y → insn_of r x ≡ insn_of s y
@@ -134,7 +146,8 @@ one_meaning bytes i j p q =
 
 pub prefix_free : (bytes more : List ℕ) (i j : Insn) → Spells bytes i → Spells (bytes ++ more) j → more ≡ []
 prefix_free bytes more i j p q =
-    (one_row p.row q.row p.listed q.listed (bytes ++ more) p.parts q.parts more [] (row_follows p.row p.listed bytes p.parts [] p.by_row.read more) q.by_row.read).2
+    (one_row p.row q.row p.listed q.listed (bytes ++ more) p.parts q.parts more []
+    (row_follows p.row p.listed bytes p.parts [] p.by_row.read more) q.by_row.read).2
 
 pub not_empty : (bytes : List ℕ) (insn : Insn) → Spells bytes insn → 0 < length bytes
 unfolding parts_at

@@ -58,23 +58,28 @@ there : (x : Option ArrayBytes) (front : List ℕ) (n : ℕ) → Begins front n 
 there None front n h = absurd h
 there (Some a) front n h = (a, refl)
 
-symbol_spelled : (o : Op) (c n : ℕ) (a : ArrayBytes) → chosen (with_wide true) (by_distance o c (distance 0)) ≡ Some a → spelled (to_symbol o c symbol) (label_arguments n) ≡ Ok (whole (to_symbol o c symbol) (with_wide true) a)
+symbol_spelled : (o : Op) (c n : ℕ) (a : ArrayBytes) → chosen (with_wide true) (by_distance o c (distance 0)) ≡ Some a
+    → spelled (to_symbol o c symbol) (label_arguments n) ≡ Ok (whole (to_symbol o c symbol) (with_wide true) a)
 unfolding spelled
 symbol_spelled o c n a e = rw (label_widths o c n, symbol_insn o c, e, symbol_fits o c) refl
 
-symbol_drafted : (m : Mnemonic) (n : ℕ) (d : Draft) → drafted false m (taken.One (given.Memory symbol)) ≡ Some d → drafted_of false m (label_arguments n) ≡ Some d
+symbol_drafted : (m : Mnemonic) (n : ℕ) (d : Draft) → drafted false m (taken.One (given.Memory symbol)) ≡ Some d
+    → drafted_of false m (label_arguments n) ≡ Some d
 unfolding drafted_of
 symbol_drafted m n d e = rw (label_taken n) e
 
-branches : (o : Op) (c n : ℕ) (front : List ℕ) (len : ℕ) (name : List ℕ) (m : Mnemonic) → known_name name ≡ Some m → drafted false m (taken.One (given.Memory symbol)) ≡ Some (to_symbol o c symbol)
-    → Begins front len (chosen (with_wide true) (by_distance o c (distance 0))) → (imm : ℕ) → BranchesTo (record { rep = false; name = name; arguments = label_arguments n }) (label_of n) (by_distance o c imm)
+branches : (o : Op) (c n : ℕ) (front : List ℕ) (len : ℕ) (name : List ℕ) (m : Mnemonic) → known_name name ≡ Some m
+    → drafted false m (taken.One (given.Memory symbol)) ≡ Some (to_symbol o c symbol)
+    → Begins front len (chosen (with_wide true) (by_distance o c (distance 0))) → (imm : ℕ)
+    → BranchesTo (record { rep = false; name = name; arguments = label_arguments n }) (label_of n) (by_distance o c imm)
 unfolding whole to_symbol instruction
 branches o c n front len name m k d b imm =
     let a = there (chosen (with_wide true) (by_distance o c (distance 0))) front len b in
     let w = whole (to_symbol o c symbol) (with_wide true) a.0 in
     record {
       answer = w;
-      assembled_as = assembles_as false name m (label_arguments n) (to_symbol o c symbol) w k (symbol_drafted m n (to_symbol o c symbol) d) (symbol_spelled o c n a.0 a.1);
+      assembled_as = assembles_as false name m (label_arguments n) (to_symbol o c symbol) w k (symbol_drafted m n (to_symbol o c symbol) d)
+          (symbol_spelled o c n a.0 a.1);
       same = refl;
       field = record { at = a.0.imm_at; argument = 0; relative = true };
       field_there = refl;
@@ -84,14 +89,20 @@ branches o c n front len name m k d b imm =
       names = refl;
     }
 
-pub jmp_again : (imm at len : ℕ) → BranchesTo (statement_of (by_distance op.Jmp 0 imm) at len) (label_of (target imm at len)) (by_distance op.Jmp 0 imm)
+pub jmp_again : (imm at len : ℕ) → BranchesTo (statement_of (by_distance op.Jmp 0 imm) at len) (label_of (target imm at len))
+    (by_distance op.Jmp 0 imm)
 unfolding statement_of name_of operands_of arguments_of drafted control_draft direct agreed
-jmp_again imm at len = branches op.Jmp 0 (target imm at len) (0xe9 ∷ []) 5 (stem op.Jmp ++ []) _ bare_Jmp refl (jmp_by_four_bytes true (distance 0)) imm
+jmp_again imm at len =
+    branches op.Jmp 0 (target imm at len) (0xe9 ∷ []) 5 (stem op.Jmp ++ []) _ bare_Jmp refl (jmp_by_four_bytes true (distance 0)) imm
 
-pub call_again : (imm at len : ℕ) → BranchesTo (statement_of (by_distance op.Call 0 imm) at len) (label_of (target imm at len)) (by_distance op.Call 0 imm)
+pub call_again : (imm at len : ℕ) → BranchesTo (statement_of (by_distance op.Call 0 imm) at len) (label_of (target imm at len))
+    (by_distance op.Call 0 imm)
 unfolding statement_of name_of operands_of arguments_of drafted control_draft direct agreed
-call_again imm at len = branches op.Call 0 (target imm at len) (0xe8 ∷ []) 5 (stem op.Call ++ []) _ bare_Call refl (call_by_four_bytes true (distance 0)) imm
+call_again imm at len =
+    branches op.Call 0 (target imm at len) (0xe8 ∷ []) 5 (stem op.Call ++ []) _ bare_Call refl (call_by_four_bytes true (distance 0)) imm
 
-pub jcc_again : (c imm at len : ℕ) → c < 16 → BranchesTo (statement_of (by_distance op.Jcc c imm) at len) (label_of (target imm at len)) (by_distance op.Jcc c imm)
+pub jcc_again : (c imm at len : ℕ) → c < 16 → BranchesTo (statement_of (by_distance op.Jcc c imm) at len) (label_of (target imm at len))
+    (by_distance op.Jcc c imm)
 unfolding statement_of name_of operands_of arguments_of drafted control_draft direct agreed
-jcc_again c imm at len l = branches op.Jcc c (target imm at len) (0x0f ∷ (0x80 + c) ∷ []) 6 (stem op.Jcc ++ condition_name c) _ (jump_named c l) refl (jcc_by_four_bytes true c (distance 0) l) imm
+jcc_again c imm at len l = branches op.Jcc c (target imm at len) (0x0f ∷ (0x80 + c) ∷ []) 6 (stem op.Jcc ++ condition_name c) _
+    (jump_named c l) refl (jcc_by_four_bytes true c (distance 0) l) imm

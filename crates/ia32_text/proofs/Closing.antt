@@ -46,7 +46,8 @@ spelled_chosen bytes i s = there (chosen plain i) (none_chosen bytes i s)
 
 -- ---- no argument names a symbol
 
-if_unnamed : (b c : Bool) (x y : Value) → x.name ≡ None → y.name ≡ None → value_name (if b then Some x else if c then None else Some y) ≡ None
+if_unnamed : (b c : Bool) (x y : Value) → x.name ≡ None → y.name ≡ None
+    → value_name (if b then Some x else if c then None else Some y) ≡ None
 if_unnamed true c x y p q = p
 if_unnamed false true x y p q = refl
 if_unnamed false false x y p q = q
@@ -86,7 +87,8 @@ plain_widths o h d = rw (unnamed o h d.disp, unnamed o h d.imm) refl
 
 -- ---- the answer
 
-not_refused_as : (name : List ℕ) (m : Mnemonic) → known_name name ≡ Some m → (o : Option Refused) → found refused_names name ≡ o → is_some o ≡ false
+not_refused_as : (name : List ℕ) (m : Mnemonic) → known_name name ≡ Some m → (o : Option Refused)
+    → found refused_names name ≡ o → is_some o ≡ false
 not_refused_as name m e None h = refl
 not_refused_as name m e (Some r) h = absurd (let n : None ≡ Some m = sym (refused_unknown name (found_refused name r h)) ∙ e in cc)
 
@@ -110,15 +112,18 @@ pub record Assembles (i : Insn) (name : List ℕ) (args : List Argument) : Type 
   pub same : answer.insn ≡ i
   pub spelling_is : chosen plain i ≡ Some answer.spelling
 
-spells_as : (d : Draft) (args : List Argument) (a : ArrayBytes) → widths d args ≡ plain → chosen plain d.insn ≡ Some a → d.fits ≡ true → spelled d args ≡ Ok (whole d plain a)
+spells_as : (d : Draft) (args : List Argument) (a : ArrayBytes) → widths d args ≡ plain → chosen plain d.insn ≡ Some a → d.fits ≡ true
+    → spelled d args ≡ Ok (whole d plain a)
 unfolding spelled
 spells_as d args a w e f = rw (w, e, f) refl
 
-drafts_as : (i : Insn) (m : Mnemonic) (args : List Argument) (os : Operands) (d : Draft) → taken_by args ≡ Some os → drafted i.rep m os ≡ Some d → drafted_of i.rep m args ≡ Some d
+drafts_as : (i : Insn) (m : Mnemonic) (args : List Argument) (os : Operands) (d : Draft) → taken_by args ≡ Some os
+    → drafted i.rep m os ≡ Some d → drafted_of i.rep m args ≡ Some d
 unfolding drafted_of
 drafts_as i m args os d e f = rw e f
 
-pub assembles_as : (rep : Bool) (name : List ℕ) (m : Mnemonic) (args : List Argument) (d : Draft) (a : Assembled) → known_name name ≡ Some m → drafted_of rep m args ≡ Some d
+pub assembles_as : (rep : Bool) (name : List ℕ) (m : Mnemonic) (args : List Argument) (d : Draft) (a : Assembled) → known_name name ≡ Some m
+    → drafted_of rep m args ≡ Some d
     → spelled d args ≡ Ok a → assembled rep name args ≡ Ok a
 unfolding assembled by_mnemonic
 assembles_as rep name m args d a e f g = rw (not_refused name m e, e, f) g
@@ -131,7 +136,8 @@ whole_spelling : (d : Draft) (w : Wide) (a : ArrayBytes) → (whole d w a).spell
 unfolding whole
 whole_spelling d w a = refl
 
-pub assembles : (i : Insn) (name : List ℕ) (o : WrittenOperands) (a : ArrayBytes) → chosen plain i ≡ Some a → Means i name o → Assembles i name (arguments_of o)
+pub assembles : (i : Insn) (name : List ℕ) (o : WrittenOperands) (a : ArrayBytes) → chosen plain i ≡ Some a → Means i name o
+    → Assembles i name (arguments_of o)
 assembles i name o a e m =
     let args = arguments_of o in
     let w = plain_widths o m.written m.draft in
@@ -139,7 +145,8 @@ assembles i name o a e m =
     let d = drafts_as i m.mnemonic args (taken_of o) m.draft (operands_back o m.written) m.drafted_as in
     record {
       answer = whole m.draft plain a;
-      assembled_as = assembles_as i.rep name m.mnemonic args m.draft (whole m.draft plain a) m.named d (spells_as m.draft args a w c m.fits);
+      assembled_as =
+          assembles_as i.rep name m.mnemonic args m.draft (whole m.draft plain a) m.named d (spells_as m.draft args a w c m.fits);
       same = whole_insn m.draft plain a ∙ m.same;
       spelling_is = e ∙ ap (λ (x : ArrayBytes). Some x) (sym (whole_spelling m.draft plain a));
     }

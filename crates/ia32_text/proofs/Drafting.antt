@@ -84,10 +84,12 @@ pub record DraftsTo (i : Insn) (x : Option Draft) : Type 0 where
 pub drafts_to : (i : Insn) (x : Option Draft) (d : Draft) → x ≡ Some d → Drafts i d → DraftsTo i x
 drafts_to i x d e h = record { draft = d; is = e; drafts = h }
 
-pub pair_drafts : (o : Op) (s : Size) (a b : Operand) (k j : ℕ) → IsOperand a → IsOperand b → Drafts (made o s a b 0 0 false) (instruction o s (numbered a k) (numbered b j))
+pub pair_drafts : (o : Op) (s : Size) (a b : Operand) (k j : ℕ) → IsOperand a → IsOperand b
+    → Drafts (made o s a b 0 0 false) (instruction o s (numbered a k) (numbered b j))
 unfolding instruction
 pair_drafts o s a b k j p q = record {
-  same = ap (λ x. made o s x (numbered b j).operand 0 0 false) (numbered_operand a k) ∙ ap (λ x. made o s a x 0 0 false) (numbered_operand b j);
+  same = ap (λ x. made o s x (numbered b j).operand 0 0 false) (numbered_operand a k)
+      ∙ ap (λ x. made o s a x 0 0 false) (numbered_operand b j);
   fits = either_fits (numbered a k).displacement (numbered b j).displacement (numbered_fits a k p) (numbered_fits b j q);
 }
 
@@ -102,7 +104,8 @@ small_fits size.Word n l = lt-ltb n _ l
 small_fits size.Long n l = lt-ltb n _ l
 
 -- with a number in a field of this size
-pub number_drafts : (i : Insn) (d : Draft) (t : Size) (n k : ℕ) → Drafts i d → n < span t → Drafts (record i { imm = n }) (with_number d t (plain_at (pos n) k))
+pub number_drafts : (i : Insn) (d : Draft) (t : Size) (n k : ℕ) → Drafts i d → n < span t
+    → Drafts (record i { imm = n }) (with_number d t (plain_at (pos n) k))
 unfolding with_number
 number_drafts i d t n k h l = record {
   same = ap (λ (x : Insn). record x { imm = field t (pos n) }) h.same ∙ ap (λ m. record i { imm = m }) (field_small t n l);
@@ -165,7 +168,8 @@ first_given s imm b = given_of (as_written s imm b) 0
 abbrev pub second_given : Size → ℕ → Operand → Given
 second_given s imm a = given_of (as_written s imm a) 1
 
-zero_drafts : (o : Op) (s : Size) (a b : Operand) (imm : ℕ) (d : Draft) → imm ≡ 0 → Drafts (made o s a b 0 0 false) d → Drafts (made o s a b imm 0 false) d
+zero_drafts : (o : Op) (s : Size) (a b : Operand) (imm : ℕ) (d : Draft) → imm ≡ 0 → Drafts (made o s a b 0 0 false) d
+    → Drafts (made o s a b imm 0 false) d
 zero_drafts o s a b imm d e h = subst (λ n. Drafts (made o s a b n 0 false) d) (sym e) h
 
 pub two_drafts : (o : Op) (s : Size) (a b : Operand) (imm : ℕ) → IsTwo s a b imm
@@ -195,7 +199,8 @@ PlaceKind (operand.Register n) = Unit {0}
 PlaceKind (operand.Memory a) = Unit {0}
 PlaceKind _ = ⊥
 
-pub one_drafts : (o : Op) (s t : Size) (own suffix : Option Size) (a : Operand) (imm k : ℕ) → agreed suffix (Some t) own ≡ Some s → agreed suffix None own ≡ Some s
+pub one_drafts : (o : Op) (s t : Size) (own suffix : Option Size) (a : Operand) (imm k : ℕ) → agreed suffix (Some t) own ≡ Some s
+    → agreed suffix None own ≡ Some s
     → IsOperand a → PlaceKind a → DraftsTo (made o s a operand.Absent 0 0 false) (of_one own o suffix (given_of (as_written t imm a) k))
 unfolding of_one
 one_drafts o s t own suffix (operand.Register n) imm k e f h p =
@@ -207,10 +212,13 @@ one_drafts o s t own suffix _ imm k e f h p = absurd p
 -- ---- from a register or memory to a register; k is the number of the source's argument
 
 pub to_register_drafts : (o : Op) (s : Size) (n : ℕ) (b : Operand) (imm k j : ℕ) → n < 8 → IsOperand b → PlaceKind b
-    → DraftsTo (made o s (operand.Register n) b 0 0 false) (to_register o (Some s) (given_of (as_written s imm b) k) (given_of (written.Register s n) j))
+    → DraftsTo (made o s (operand.Register n) b 0 0 false)
+    (to_register o (Some s) (given_of (as_written s imm b) k) (given_of (written.Register s n) j))
 unfolding to_register
 to_register_drafts o s n (operand.Register m) imm k j l h p =
-    drafts_to _ _ (instruction o s (register_operand n) (register_operand m)) (rw (agreed_all s) refl) (pair_drafts o s (operand.Register n) (operand.Register m) j k l h)
+    drafts_to _ _ (instruction o s (register_operand n) (register_operand m)) (rw (agreed_all s) refl)
+    (pair_drafts o s (operand.Register n) (operand.Register m) j k l h)
 to_register_drafts o s n (operand.Memory x) imm k j l h p =
-    drafts_to _ _ (instruction o s (register_operand n) (numbered (operand.Memory x) k)) (rw (agreed_last s) refl) (pair_drafts o s (operand.Register n) (operand.Memory x) j k l h)
+    drafts_to _ _ (instruction o s (register_operand n) (numbered (operand.Memory x) k)) (rw (agreed_last s) refl)
+    (pair_drafts o s (operand.Register n) (operand.Memory x) j k l h)
 to_register_drafts o s n _ imm k j l h p = absurd p

@@ -9,7 +9,8 @@ use Rattle.asm_argument.specs.Terminals.{digit_of, digits_value, number_value}
 use Rattle.run_trace.specs.Text.{hex_digit, hex2, hex4, hex8}
 use Rattle.ia32_text.specs.Numbers.{short2, short4, short8}
 
-each_16 : (P : ℕ → Type 0) → P 0 → P 1 → P 2 → P 3 → P 4 → P 5 → P 6 → P 7 → P 8 → P 9 → P 10 → P 11 → P 12 → P 13 → P 14 → P 15 → (n : ℕ) → n < 16 → P n
+each_16 : (P : ℕ → Type 0) → P 0 → P 1 → P 2 → P 3 → P 4 → P 5 → P 6 → P 7 → P 8 → P 9 → P 10 → P 11 → P 12 → P 13 → P 14 → P 15
+    → (n : ℕ) → n < 16 → P n
 each_16 P h0 h1 h2 h3 h4 h5 h6 h7 h8 h9 h10 h11 h12 h13 h14 h15 zero l = h0
 each_16 P h0 h1 h2 h3 h4 h5 h6 h7 h8 h9 h10 h11 h12 h13 h14 h15 (suc zero) l = h1
 each_16 P h0 h1 h2 h3 h4 h5 h6 h7 h8 h9 h10 h11 h12 h13 h14 h15 (suc (suc zero)) l = h2
@@ -21,12 +22,18 @@ each_16 P h0 h1 h2 h3 h4 h5 h6 h7 h8 h9 h10 h11 h12 h13 h14 h15 (suc (suc (suc (
 each_16 P h0 h1 h2 h3 h4 h5 h6 h7 h8 h9 h10 h11 h12 h13 h14 h15 (suc (suc (suc (suc (suc (suc (suc (suc zero)))))))) l = h8
 each_16 P h0 h1 h2 h3 h4 h5 h6 h7 h8 h9 h10 h11 h12 h13 h14 h15 (suc (suc (suc (suc (suc (suc (suc (suc (suc zero))))))))) l = h9
 each_16 P h0 h1 h2 h3 h4 h5 h6 h7 h8 h9 h10 h11 h12 h13 h14 h15 (suc (suc (suc (suc (suc (suc (suc (suc (suc (suc zero)))))))))) l = h10
-each_16 P h0 h1 h2 h3 h4 h5 h6 h7 h8 h9 h10 h11 h12 h13 h14 h15 (suc (suc (suc (suc (suc (suc (suc (suc (suc (suc (suc zero))))))))))) l = h11
-each_16 P h0 h1 h2 h3 h4 h5 h6 h7 h8 h9 h10 h11 h12 h13 h14 h15 (suc (suc (suc (suc (suc (suc (suc (suc (suc (suc (suc (suc zero)))))))))))) l = h12
-each_16 P h0 h1 h2 h3 h4 h5 h6 h7 h8 h9 h10 h11 h12 h13 h14 h15 (suc (suc (suc (suc (suc (suc (suc (suc (suc (suc (suc (suc (suc zero))))))))))))) l = h13
-each_16 P h0 h1 h2 h3 h4 h5 h6 h7 h8 h9 h10 h11 h12 h13 h14 h15 (suc (suc (suc (suc (suc (suc (suc (suc (suc (suc (suc (suc (suc (suc zero)))))))))))))) l = h14
-each_16 P h0 h1 h2 h3 h4 h5 h6 h7 h8 h9 h10 h11 h12 h13 h14 h15 (suc (suc (suc (suc (suc (suc (suc (suc (suc (suc (suc (suc (suc (suc (suc zero))))))))))))))) l = h15
-each_16 P h0 h1 h2 h3 h4 h5 h6 h7 h8 h9 h10 h11 h12 h13 h14 h15 (suc (suc (suc (suc (suc (suc (suc (suc (suc (suc (suc (suc (suc (suc (suc (suc n)))))))))))))))) l = absurd (omega arith)
+each_16 P h0 h1 h2 h3 h4 h5 h6 h7 h8 h9 h10 h11 h12 h13 h14 h15 (suc (suc (suc (suc (suc (suc (suc (suc (suc (suc (suc zero))))))))))) l =
+    h11
+each_16 P h0 h1 h2 h3 h4 h5 h6 h7 h8 h9 h10 h11 h12 h13 h14 h15
+    (suc (suc (suc (suc (suc (suc (suc (suc (suc (suc (suc (suc zero)))))))))))) l = h12
+each_16 P h0 h1 h2 h3 h4 h5 h6 h7 h8 h9 h10 h11 h12 h13 h14 h15
+    (suc (suc (suc (suc (suc (suc (suc (suc (suc (suc (suc (suc (suc zero))))))))))))) l = h13
+each_16 P h0 h1 h2 h3 h4 h5 h6 h7 h8 h9 h10 h11 h12 h13 h14 h15
+    (suc (suc (suc (suc (suc (suc (suc (suc (suc (suc (suc (suc (suc (suc zero)))))))))))))) l = h14
+each_16 P h0 h1 h2 h3 h4 h5 h6 h7 h8 h9 h10 h11 h12 h13 h14 h15
+    (suc (suc (suc (suc (suc (suc (suc (suc (suc (suc (suc (suc (suc (suc (suc zero))))))))))))))) l = h15
+each_16 P h0 h1 h2 h3 h4 h5 h6 h7 h8 h9 h10 h11 h12 h13 h14 h15
+    (suc (suc (suc (suc (suc (suc (suc (suc (suc (suc (suc (suc (suc (suc (suc (suc n)))))))))))))))) l = absurd (omega arith)
 
 -- ---- what the digits say
 
@@ -53,14 +60,16 @@ short_by_2 : (b : Bool) (n : ℕ) → nat_lt n 16 ≡ b → n < 256 → digits_v
 short_by_2 true n e l = let a = digit_back n (ltb-true n 16 e) in omega (arith, a)
 short_by_2 false n e l = value_2 0 n l ∙ omega arith
 
-short_by_4 : (b : Bool) (n : ℕ) → nat_lt n 256 ≡ b → n < 65536 → digits_value 16 0 (if b then short2 n else (short2 (n / 256) ++ hex2 (n % 256))) ≡ n
+short_by_4 : (b : Bool) (n : ℕ) → nat_lt n 256 ≡ b → n < 65536
+    → digits_value 16 0 (if b then short2 n else (short2 (n / 256) ++ hex2 (n % 256))) ≡ n
 short_by_4 true n e l = short_by_2 (nat_lt n 16) n refl (ltb-true n 256 e)
 short_by_4 false n e l =
     let a = short_by_2 (nat_lt (n / 256) 16) (n / 256) refl (omega arith) in
     let b = value_2 (digits_value 16 0 (short2 (n / 256))) (n % 256) (omega arith) in
     value_append 0 (short2 (n / 256)) (hex2 (n % 256)) ∙ b ∙ omega (arith, a)
 
-short_by_8 : (b : Bool) (n : ℕ) → nat_lt n 65536 ≡ b → n < 2 ^ 32 → digits_value 16 0 (if b then short4 n else (short4 (n / 65536) ++ hex4 (n % 65536))) ≡ n
+short_by_8 : (b : Bool) (n : ℕ) → nat_lt n 65536 ≡ b → n < 2 ^ 32
+    → digits_value 16 0 (if b then short4 n else (short4 (n / 65536) ++ hex4 (n % 65536))) ≡ n
 short_by_8 true n e l = short_by_4 (nat_lt n 256) n refl (ltb-true n 65536 e)
 short_by_8 false n e l =
     let a = short_by_4 (nat_lt (n / 65536) 256) (n / 65536) refl (omega arith) in
@@ -75,14 +84,16 @@ number_back n l = short_by_8 (nat_lt n 65536) n refl l
 
 hex_word : (n : ℕ) → n < 16 → (is_word (hex_digit n) && is_ascii_hexdigit (hex_digit n)) ≡ true
 unfolding is_word is_letter
-hex_word = each_16 (λ n. (is_word (hex_digit n) && is_ascii_hexdigit (hex_digit n)) ≡ true) refl refl refl refl refl refl refl refl refl refl refl refl refl refl refl refl
+hex_word = each_16 (λ n. (is_word (hex_digit n) && is_ascii_hexdigit (hex_digit n)) ≡ true) refl refl refl refl refl refl refl refl refl
+    refl refl refl refl refl refl refl
 
 abbrev pub is_hex_word : ℕ → Bool
 is_hex_word b = is_word b && is_ascii_hexdigit b
 
 all_append : (xs ys : List ℕ) → list_all is_hex_word xs ≡ true → list_all is_hex_word ys ≡ true → list_all is_hex_word (xs ++ ys) ≡ true
 all_append [] ys p q = q
-all_append (x ∷ xs) ys p q = let both = and_parts (is_hex_word x) (list_all is_hex_word xs) p in and_from (is_hex_word x) (list_all is_hex_word (xs ++ ys)) both.0 (all_append xs ys both.1 q)
+all_append (x ∷ xs) ys p q = let both = and_parts (is_hex_word x) (list_all is_hex_word xs) p in
+    and_from (is_hex_word x) (list_all is_hex_word (xs ++ ys)) both.0 (all_append xs ys both.1 q)
 
 words_2 : (n : ℕ) → n < 256 → list_all is_hex_word (hex2 n) ≡ true
 words_2 n l = and_from _ _ (hex_word (n / 16) (omega arith)) (and_from _ _ (hex_word (n % 16) (omega arith)) refl)
@@ -94,13 +105,17 @@ words_by_2 : (b : Bool) (n : ℕ) → nat_lt n 16 ≡ b → n < 256 → list_all
 words_by_2 true n e l = and_from _ _ (hex_word n (ltb-true n 16 e)) refl
 words_by_2 false n e l = words_2 n l
 
-words_by_4 : (b : Bool) (n : ℕ) → nat_lt n 256 ≡ b → n < 65536 → list_all is_hex_word (if b then short2 n else (short2 (n / 256) ++ hex2 (n % 256))) ≡ true
+words_by_4 : (b : Bool) (n : ℕ) → nat_lt n 256 ≡ b → n < 65536
+    → list_all is_hex_word (if b then short2 n else (short2 (n / 256) ++ hex2 (n % 256))) ≡ true
 words_by_4 true n e l = words_by_2 (nat_lt n 16) n refl (ltb-true n 256 e)
-words_by_4 false n e l = all_append (short2 (n / 256)) (hex2 (n % 256)) (words_by_2 (nat_lt (n / 256) 16) (n / 256) refl (omega arith)) (words_2 (n % 256) (omega arith))
+words_by_4 false n e l = all_append (short2 (n / 256)) (hex2 (n % 256)) (words_by_2 (nat_lt (n / 256) 16) (n / 256) refl (omega arith))
+    (words_2 (n % 256) (omega arith))
 
-words_by_8 : (b : Bool) (n : ℕ) → nat_lt n 65536 ≡ b → n < 2 ^ 32 → list_all is_hex_word (if b then short4 n else (short4 (n / 65536) ++ hex4 (n % 65536))) ≡ true
+words_by_8 : (b : Bool) (n : ℕ) → nat_lt n 65536 ≡ b → n < 2 ^ 32
+    → list_all is_hex_word (if b then short4 n else (short4 (n / 65536) ++ hex4 (n % 65536))) ≡ true
 words_by_8 true n e l = words_by_4 (nat_lt n 256) n refl (ltb-true n 65536 e)
-words_by_8 false n e l = all_append (short4 (n / 65536)) (hex4 (n % 65536)) (words_by_4 (nat_lt (n / 65536) 256) (n / 65536) refl (omega arith)) (words_4 (n % 65536) (omega arith))
+words_by_8 false n e l = all_append (short4 (n / 65536)) (hex4 (n % 65536))
+    (words_by_4 (nat_lt (n / 65536) 256) (n / 65536) refl (omega arith)) (words_4 (n % 65536) (omega arith))
 
 pub number_words : (n : ℕ) → n < 2 ^ 32 → list_all is_hex_word (short8 n) ≡ true
 number_words n l = words_by_8 (nat_lt n 65536) n refl l

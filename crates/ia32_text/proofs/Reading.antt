@@ -43,9 +43,12 @@ each_8 P a b c d e f g h (suc (suc (suc (suc (suc (suc (suc (suc n)))))))) l = a
 
 register_read : (s : Size) (n : ℕ) → n < 8 → named_register (register_name s n) ≡ Some (given.Register s n)
 unfolding named_register long_registers word_registers byte_registers segment_registers control_registers long_name word_name byte_name
-register_read size.Long n l = each_8 (λ n. named_register (long_name n) ≡ Some (given.Register size.Long n)) refl refl refl refl refl refl refl refl n l
-register_read size.Word n l = each_8 (λ n. named_register (word_name n) ≡ Some (given.Register size.Word n)) refl refl refl refl refl refl refl refl n l
-register_read size.Byte n l = each_8 (λ n. named_register (byte_name n) ≡ Some (given.Register size.Byte n)) refl refl refl refl refl refl refl refl n l
+register_read size.Long n l =
+    each_8 (λ n. named_register (long_name n) ≡ Some (given.Register size.Long n)) refl refl refl refl refl refl refl refl n l
+register_read size.Word n l =
+    each_8 (λ n. named_register (word_name n) ≡ Some (given.Register size.Word n)) refl refl refl refl refl refl refl refl n l
+register_read size.Byte n l =
+    each_8 (λ n. named_register (byte_name n) ≡ Some (given.Register size.Byte n)) refl refl refl refl refl refl refl refl n l
 
 segment_read : (g : Seg) → named_register (segment_name g) ≡ Some (given.Segment g)
 unfolding named_register long_registers word_registers byte_registers segment_registers control_registers segment_name
@@ -128,7 +131,8 @@ plain_fits n l = lt-ltb n (2 ^ 32) l
 negative_fits : (n : ℕ) → n < 2 ^ 31 → fits_field size.Long (negsuc n) ≡ true
 negative_fits n l = grind (arith, nat_tests)
 
-signed_fits : (n : ℕ) (b : Bool) → nat_lt n (2 ^ 31) ≡ b → n < 2 ^ 32 → fits_field size.Long (if b then pos n else negsuc (2 ^ 32 - 1 - n)) ≡ true
+signed_fits : (n : ℕ) (b : Bool) → nat_lt n (2 ^ 31) ≡ b → n < 2 ^ 32
+    → fits_field size.Long (if b then pos n else negsuc (2 ^ 32 - 1 - n)) ≡ true
 signed_fits n true e l = plain_fits n l
 signed_fits n false e l = negative_fits (2 ^ 32 - 1 - n) (omega (arith, ltb-false n (2 ^ 31) e))
 
@@ -136,13 +140,19 @@ plain_displaces : (k disp : ℕ) → disp < 2 ^ 32 → Displaces (Some (record {
 plain_displaces k disp l = record { plain = refl; counted = refl; bits = field_plain disp l; fits = plain_fits disp l }
 
 signed_displaces : (k disp : ℕ) → disp < 2 ^ 32 → Displaces (Some (record { name = None; number = signed_long disp })) k disp
-signed_displaces k disp l = record { plain = refl; counted = refl; bits = signed_bits disp (nat_lt disp (2 ^ 31)) refl l; fits = signed_fits disp (nat_lt disp (2 ^ 31)) refl l }
+signed_displaces k disp l = record {
+  plain = refl;
+  counted = refl;
+  bits = signed_bits disp (nat_lt disp (2 ^ 31)) refl l;
+  fits = signed_fits disp (nat_lt disp (2 ^ 31)) refl l;
+}
 
 none_displaces : (k disp : ℕ) → disp ≡ 0 → Displaces None k disp
 none_displaces k disp e = record { plain = refl; counted = refl; bits = sym e; fits = refl }
 
 chosen_displaces : (k disp : ℕ) (b c : Bool) → (c ≡ true → disp ≡ 0) → disp < 2 ^ 32
-    → Displaces (if b then Some (record { name = None; number = pos disp }) else if c then None else Some (record { name = None; number = signed_long disp })) k disp
+    → Displaces (if b then Some (record { name = None; number = pos disp }) else if c then None else Some
+    (record { name = None; number = signed_long disp })) k disp
 chosen_displaces k disp true c z l = plain_displaces k disp l
 chosen_displaces k disp false true z l = none_displaces k disp (z refl)
 chosen_displaces k disp false false z l = signed_displaces k disp l
@@ -162,7 +172,8 @@ abbrev pub memory_given : Address → Number → Given
 memory_given a n = given.Memory (record { address = a; displacement = n })
 
 memory_is : (a : Address) (n : Number) → field size.Long n.value ≡ a.disp → address a.base a.index a.scale n ≡ memory_given a n
-memory_is a n e = ap (λ d. given.Memory (record { address = record { base = a.base; index = a.index; scale = a.scale; disp = d }; displacement = n })) e
+memory_is a n e =
+    ap (λ d. given.Memory (record { address = record { base = a.base; index = a.index; scale = a.scale; disp = d }; displacement = n })) e
 
 memory_operand_is : (a : Address) (n : Number) → field size.Long n.value ≡ a.disp
     → memory_operand n (option_map reg_name a.base) (option_map reg_name a.index) a.scale ≡ Some (memory_given a n)
@@ -173,10 +184,12 @@ not_port : (v : Option Value) (b : Bool) (c : Bool) (x y : Option Given) → b �
 not_port None b c x y e = rw e refl
 not_port (Some v) b c x y e = refl
 
-memory_read : (a : Address) (k : ℕ) → a.disp < 2 ^ 32 → given_by (form_of (written.Memory a)) k ≡ Some (memory_given a (displacement (displacement_of a) k))
+memory_read : (a : Address) (k : ℕ) → a.disp < 2 ^ 32
+    → given_by (form_of (written.Memory a)) k ≡ Some (memory_given a (displacement (displacement_of a) k))
 unfolding given_by
 memory_read a k l =
-    not_port (displacement_of a) (is_dx (option_map reg_name a.base)) (is_none (option_map reg_name a.index)) (Some given.Port) _ (not_dx a.base)
+    not_port (displacement_of a) (is_dx (option_map reg_name a.base)) (is_none (option_map reg_name a.index))
+    (Some given.Port) _ (not_dx a.base)
     ∙ memory_operand_is a (displacement (displacement_of a) k) (address_displaces a k l).bits
 
 -- ---- operands

@@ -84,7 +84,8 @@ rm_memory place.Memory (operand.Segment g) t e = absurd cc
 rm_memory place.Memory (operand.Control n) t e = absurd cc
 rm_memory _ rm t e = absurd cc
 
-pub modrm_memory : (f : Modrm) (reg : ℕ) (rm : Operand) → memory_alone f.place ≡ true → addressing_fits (addressing.Modrm f) reg rm ≡ true → IsMemory rm
+pub modrm_memory : (f : Modrm) (reg : ℕ) (rm : Operand) → memory_alone f.place ≡ true
+    → addressing_fits (addressing.Modrm f) reg rm ≡ true → IsMemory rm
 modrm_memory f reg rm t e = rm_memory f.place rm t (and_parts (nat_lt reg 8 && has_slash f.slash reg) (rm_fits f.place rm) e).1
 
 -- a register alone
@@ -104,7 +105,8 @@ rm_register place.Register (operand.Segment g) t e = absurd cc
 rm_register place.Register (operand.Control n) t e = absurd cc
 rm_register _ rm t e = absurd cc
 
-pub modrm_register : (f : Modrm) (reg : ℕ) (rm : Operand) → register_alone f.place ≡ true → addressing_fits (addressing.Modrm f) reg rm ≡ true → IsRegister rm
+pub modrm_register : (f : Modrm) (reg : ℕ) (rm : Operand) → register_alone f.place ≡ true
+    → addressing_fits (addressing.Modrm f) reg rm ≡ true → IsRegister rm
 modrm_register f reg rm t e = rm_register f.place rm t (and_parts (nat_lt reg 8 && has_slash f.slash reg) (rm_fits f.place rm) e).1
 
 abbrev pub control_slash : Slash → Bool
@@ -115,8 +117,11 @@ pub slash_control : (s : Slash) (n : ℕ) → control_slash s ≡ true → has_s
 slash_control slash.Control n t e = e
 slash_control _ n t e = absurd cc
 
-pub modrm_control : (f : Modrm) (reg : ℕ) (rm : Operand) → control_slash f.slash ≡ true → addressing_fits (addressing.Modrm f) reg rm ≡ true → is_control reg ≡ true
-modrm_control f reg rm t e = slash_control f.slash reg t (and_parts (nat_lt reg 8) (has_slash f.slash reg) (and_parts (nat_lt reg 8 && has_slash f.slash reg) (rm_fits f.place rm) e).0).1
+pub modrm_control : (f : Modrm) (reg : ℕ) (rm : Operand) → control_slash f.slash ≡ true → addressing_fits (addressing.Modrm f) reg rm ≡ true
+    → is_control reg ≡ true
+modrm_control f reg rm t e =
+    slash_control f.slash reg t
+    (and_parts (nat_lt reg 8) (has_slash f.slash reg) (and_parts (nat_lt reg 8 && has_slash f.slash reg) (rm_fits f.place rm) e).0).1
 
 -- ---- numbers
 
@@ -127,7 +132,8 @@ number_kind size.Long immediate.SignedByte = true
 number_kind size.Long immediate.Long = true
 number_kind _ _ = false
 
-pub number_is : (s : Size) (k : Immediate) (imm sel : ℕ) → number_kind s k ≡ true → immediate_fits k imm sel ≡ true → imm < 2 ^ 32 → imm < span s
+pub number_is : (s : Size) (k : Immediate) (imm sel : ℕ) → number_kind s k ≡ true → immediate_fits k imm sel ≡ true
+    → imm < 2 ^ 32 → imm < span s
 number_is size.Byte immediate.Byte imm sel t e l = ltb-true imm 256 (and_parts (nat_lt imm 256) (sel == 0) e).0
 number_is size.Word immediate.Word imm sel t e l = ltb-true imm 65536 (and_parts (nat_lt imm 65536) (sel == 0) e).0
 number_is size.Long immediate.SignedByte imm sel t e l = l
@@ -219,24 +225,52 @@ two_row s operands.AccumulatorRm addressing.Offset k = no_number k
 two_row s operands.RmAccumulator addressing.Offset k = no_number k
 two_row s _ _ k = false
 
-pub two_is : (s : Size) (os : Operands) (addr : Addressing) (k : Immediate) (p : Parts) → two_row s os addr k ≡ true → Facts os addr k p → IsTwo s (operands_of os p).0 (operands_of os p).1 p.imm
+pub two_is : (s : Size) (os : Operands) (addr : Addressing) (k : Immediate) (p : Parts) → two_row s os addr k ≡ true → Facts os addr k p
+    → IsTwo s (operands_of os p).0 (operands_of os p).1 p.imm
 two_is s operands.Rm (addressing.Modrm f) k p t h =
     let place = modrm_place f p.reg p.rm h.place in
-    record { a_is = safe_place p.rm place h.a_is; b_is = tt; kinds = kinds_absent p.rm place; number = number_is s k p.imm p.sel t h.number h.small }
-two_is s operands.Accumulator addressing.Nothing k p t h = record { a_is = h.a_is; b_is = tt; kinds = tt; number = number_is s k p.imm p.sel t h.number h.small }
-two_is s operands.Opcode addressing.Nothing k p t h = record { a_is = h.a_is; b_is = tt; kinds = tt; number = number_is s k p.imm p.sel t h.number h.small }
+    record {
+      a_is = safe_place p.rm place h.a_is;
+      b_is = tt;
+      kinds = kinds_absent p.rm place;
+      number = number_is s k p.imm p.sel t h.number h.small;
+    }
+two_is s operands.Accumulator addressing.Nothing k p t h =
+    record { a_is = h.a_is; b_is = tt; kinds = tt; number = number_is s k p.imm p.sel t h.number h.small }
+two_is s operands.Opcode addressing.Nothing k p t h =
+    record { a_is = h.a_is; b_is = tt; kinds = tt; number = number_is s k p.imm p.sel t h.number h.small }
 two_is s operands.RmReg (addressing.Modrm f) k p t h =
     let place = modrm_place f p.reg p.rm h.place in
-    record { a_is = safe_place p.rm place h.a_is; b_is = h.b_is; kinds = kinds_register p.rm p.reg place; number = zero_is k p.imm p.sel t h.number }
+    record {
+      a_is = safe_place p.rm place h.a_is;
+      b_is = h.b_is;
+      kinds = kinds_register p.rm p.reg place;
+      number = zero_is k p.imm p.sel t h.number;
+    }
 two_is s operands.RegRm (addressing.Modrm f) k p t h =
     let place = modrm_place f p.reg p.rm h.place in
-    record { a_is = h.a_is; b_is = safe_place p.rm place h.b_is; kinds = kinds_to p.reg p.rm place; number = two_number s p.rm p.imm place (zero_is k p.imm p.sel t h.number) }
+    record {
+      a_is = h.a_is;
+      b_is = safe_place p.rm place h.b_is;
+      kinds = kinds_to p.reg p.rm place;
+      number = two_number s p.rm p.imm place (zero_is k p.imm p.sel t h.number);
+    }
 two_is s operands.AccumulatorRm addressing.Offset k p t h =
     let place = offset_place p.reg p.rm h.place in
-    record { a_is = h.a_is; b_is = safe_place p.rm place h.b_is; kinds = kinds_to 0 p.rm place; number = two_number s p.rm p.imm place (zero_is k p.imm p.sel t h.number) }
+    record {
+      a_is = h.a_is;
+      b_is = safe_place p.rm place h.b_is;
+      kinds = kinds_to 0 p.rm place;
+      number = two_number s p.rm p.imm place (zero_is k p.imm p.sel t h.number);
+    }
 two_is s operands.RmAccumulator addressing.Offset k p t h =
     let place = offset_place p.reg p.rm h.place in
-    record { a_is = safe_place p.rm place h.a_is; b_is = h.b_is; kinds = kinds_register p.rm 0 place; number = zero_is k p.imm p.sel t h.number }
+    record {
+      a_is = safe_place p.rm place h.a_is;
+      b_is = h.b_is;
+      kinds = kinds_register p.rm 0 place;
+      number = zero_is k p.imm p.sel t h.number;
+    }
 two_is s _ _ k p t h = absurd cc
 
 pub test_absent : (a : Operand) → TestKinds a operand.Absent
@@ -282,7 +316,8 @@ one_is P all operands.Rm (addressing.Modrm f) k p t h =
     let place = modrm_place f p.reg p.rm h.place in
     zero_has P p.rm operand.Absent p.imm (zero_is k p.imm p.sel t h.number) (all p.rm (safe_place p.rm place h.a_is) place)
 one_is P all operands.Opcode addressing.Nothing k p t h =
-    zero_has P (operand.Register (p.code % 8)) operand.Absent p.imm (zero_is k p.imm p.sel t h.number) (all (operand.Register (p.code % 8)) h.a_is tt)
+    zero_has P (operand.Register (p.code % 8)) operand.Absent p.imm (zero_is k p.imm p.sel t h.number)
+    (all (operand.Register (p.code % 8)) h.a_is tt)
 one_is P all _ _ k p t h = absurd cc
 
 -- memory alone
@@ -290,7 +325,8 @@ abbrev pub memory_row : Operands → Addressing → Immediate → Bool
 memory_row operands.Rm (addressing.Modrm f) k = memory_alone f.place && no_number k
 memory_row _ _ k = false
 
-pub of_memory : (P : Operand → Type 0) → ((x : _) → IsOperand (operand.Memory x) → P (operand.Memory x)) → (a : Operand) → IsMemory a → IsSafe a → P a
+pub of_memory : (P : Operand → Type 0) → ((x : _) → IsOperand (operand.Memory x) → P (operand.Memory x)) → (a : Operand)
+    → IsMemory a → IsSafe a → P a
 of_memory P all (operand.Memory x) m h = all x h
 of_memory P all _ m h = absurd m
 
@@ -309,7 +345,8 @@ into_row operands.RegRm (addressing.Modrm f) = true
 into_row _ _ = false
 
 pub into_is : (P : Shape) (imm : ℕ) → ((n : ℕ) (b : Operand) → n < 8 → IsOperand b → PlaceKind b → P (operand.Register n) b imm)
-    → (os : Operands) (addr : Addressing) (k : Immediate) (p : Parts) → into_row os addr ≡ true → Facts os addr k p → P (operands_of os p).0 (operands_of os p).1 imm
+    → (os : Operands) (addr : Addressing) (k : Immediate) (p : Parts) → into_row os addr ≡ true → Facts os addr k p
+    → P (operands_of os p).0 (operands_of os p).1 imm
 into_is P imm all operands.RegRm (addressing.Modrm f) k p t h =
     let place = modrm_place f p.reg p.rm h.place in
     all p.reg p.rm h.a_is (safe_place p.rm place h.b_is) place
@@ -324,7 +361,8 @@ into_zero_is P all os addr k p t h =
     let both = and_parts (into_row os addr) (no_number k) t in
     zero_has P _ _ p.imm (zero_is k p.imm p.sel both.1 h.number) (into_is P 0 all os addr k p both.0 h)
 
-pub into_number_is : (P : Shape) → ((n : ℕ) (b : Operand) (imm : ℕ) → n < 8 → IsOperand b → PlaceKind b → imm < 2 ^ 32 → P (operand.Register n) b imm)
+pub into_number_is : (P : Shape)
+    → ((n : ℕ) (b : Operand) (imm : ℕ) → n < 8 → IsOperand b → PlaceKind b → imm < 2 ^ 32 → P (operand.Register n) b imm)
     → (os : Operands) (addr : Addressing) (k : Immediate) (p : Parts) → into_row os addr ≡ true → Facts os addr k p → Has P os p
 into_number_is P all os addr k p t h = into_is P p.imm (λ n b l i q. all n b p.imm l i q h.small) os addr k p t h
 
@@ -346,7 +384,8 @@ abbrev pub product_row : Operands → Addressing → Immediate → Bool
 product_row operands.RegRm a k = into_zero operands.RegRm a k
 product_row os a k = one_row os a k
 
-pub product_is : (P : Shape) → ((a : Operand) → IsOperand a → PlaceKind a → P a operand.Absent 0) → ((n : ℕ) (b : Operand) → n < 8 → IsOperand b → PlaceKind b → P (operand.Register n) b 0)
+pub product_is : (P : Shape) → ((a : Operand) → IsOperand a → PlaceKind a → P a operand.Absent 0)
+    → ((n : ℕ) (b : Operand) → n < 8 → IsOperand b → PlaceKind b → P (operand.Register n) b 0)
     → (os : Operands) (addr : Addressing) (k : Immediate) (p : Parts) → product_row os addr k ≡ true → Facts os addr k p → Has P os p
 product_is P one two operands.RegRm addr k p t h = into_zero_is P two operands.RegRm addr k p t h
 product_is P one two os addr k p t h = one_is P one os addr k p t h
@@ -358,7 +397,8 @@ shift_row operands.Rm (addressing.Modrm f) k = a_count k
 shift_row operands.RmCount (addressing.Modrm f) k = no_number k
 shift_row _ _ k = false
 
-pub shift_is : (P : Shape) → ((a : Operand) (imm : ℕ) → IsOperand a → PlaceKind a → imm < 256 → P a operand.Absent imm) → ((a : Operand) → IsOperand a → PlaceKind a → P a (operand.Register 1) 0)
+pub shift_is : (P : Shape) → ((a : Operand) (imm : ℕ) → IsOperand a → PlaceKind a → imm < 256 → P a operand.Absent imm)
+    → ((a : Operand) → IsOperand a → PlaceKind a → P a (operand.Register 1) 0)
     → (os : Operands) (addr : Addressing) (k : Immediate) (p : Parts) → shift_row os addr k ≡ true → Facts os addr k p → Has P os p
 shift_is P number count operands.Rm (addressing.Modrm f) k p t h =
     let place = modrm_place f p.reg p.rm h.place in
@@ -377,11 +417,13 @@ exchange_row operands.RmReg (addressing.Modrm f) k = memory_alone f.place && no_
 exchange_row _ _ k = false
 
 pub ordered : (P : Operand → Operand → Type 0) → ((m n : ℕ) → m ≤ n → m < 8 → n < 8 → P (operand.Register m) (operand.Register n))
-    → (rm : Operand) (reg : ℕ) → IsRegister rm → IsSafe (in_order rm reg).0 → IsSafe (in_order rm reg).1 → P (in_order rm reg).0 (in_order rm reg).1
+    → (rm : Operand) (reg : ℕ) → IsRegister rm → IsSafe (in_order rm reg).0 → IsSafe (in_order rm reg).1
+    → P (in_order rm reg).0 (in_order rm reg).1
 ordered P all (operand.Register n) reg r a b = all (min n reg) (max n reg) (omega arith) a b
 ordered P all _ reg r a b = absurd r
 
-pub exchange_is : (P : Shape) → ((m n : ℕ) → m ≤ n → m < 8 → n < 8 → P (operand.Register m) (operand.Register n) 0) → ((x : _) (n : ℕ) → IsOperand (operand.Memory x) → n < 8 → P (operand.Memory x) (operand.Register n) 0)
+pub exchange_is : (P : Shape) → ((m n : ℕ) → m ≤ n → m < 8 → n < 8 → P (operand.Register m) (operand.Register n) 0)
+    → ((x : _) (n : ℕ) → IsOperand (operand.Memory x) → n < 8 → P (operand.Memory x) (operand.Register n) 0)
     → (os : Operands) (addr : Addressing) (k : Immediate) (p : Parts) → exchange_row os addr k ≡ true → Facts os addr k p → Has P os p
 exchange_is P two mem operands.AccumulatorOpcode addressing.Nothing k p t h =
     zero_has P _ _ p.imm (zero_is k p.imm p.sel t h.number) (two 0 (p.code % 8) (omega arith) h.a_is h.b_is)
@@ -405,33 +447,39 @@ special_row operands.ControlRm operands.ControlRm (addressing.Modrm f) k = contr
 special_row _ _ _ k = false
 
 pub read_segment_is : (P : Shape) → ((a : Operand) (g : _) → IsOperand a → PlaceKind a → P a (operand.Segment g) 0)
-    → (os : Operands) (addr : Addressing) (k : Immediate) (p : Parts) → special_row operands.RmSegment os addr k ≡ true → Facts os addr k p → Has P os p
+    → (os : Operands) (addr : Addressing) (k : Immediate) (p : Parts) → special_row operands.RmSegment os addr k ≡ true
+    → Facts os addr k p → Has P os p
 read_segment_is P all operands.RmSegment (addressing.Modrm f) k p t h =
     let place = modrm_place f p.reg p.rm h.place in
     zero_has P _ _ p.imm (zero_is k p.imm p.sel t h.number) (all p.rm (segment p.reg) (safe_place p.rm place h.a_is) place)
 read_segment_is P all _ _ k p t h = absurd cc
 
 pub load_segment_is : (P : Shape) → ((g : _) (b : Operand) → IsOperand b → PlaceKind b → P (operand.Segment g) b 0)
-    → (os : Operands) (addr : Addressing) (k : Immediate) (p : Parts) → special_row operands.SegmentRm os addr k ≡ true → Facts os addr k p → Has P os p
+    → (os : Operands) (addr : Addressing) (k : Immediate) (p : Parts) → special_row operands.SegmentRm os addr k ≡ true
+    → Facts os addr k p → Has P os p
 load_segment_is P all operands.SegmentRm (addressing.Modrm f) k p t h =
     let place = modrm_place f p.reg p.rm h.place in
     zero_has P _ _ p.imm (zero_is k p.imm p.sel t h.number) (all (segment p.reg) p.rm (safe_place p.rm place h.b_is) place)
 load_segment_is P all _ _ k p t h = absurd cc
 
 pub read_control_is : (P : Shape) → ((a : Operand) (c : ℕ) → IsOperand a → PlaceKind a → is_control c ≡ true → P a (operand.Control c) 0)
-    → (os : Operands) (addr : Addressing) (k : Immediate) (p : Parts) → special_row operands.RmControl os addr k ≡ true → Facts os addr k p → Has P os p
+    → (os : Operands) (addr : Addressing) (k : Immediate) (p : Parts) → special_row operands.RmControl os addr k ≡ true
+    → Facts os addr k p → Has P os p
 read_control_is P all operands.RmControl (addressing.Modrm f) k p t h =
     let place = modrm_place f p.reg p.rm h.place in
     let both = and_parts (control_slash f.slash) (no_number k) t in
-    zero_has P _ _ p.imm (zero_is k p.imm p.sel both.1 h.number) (all p.rm p.reg (safe_place p.rm place h.a_is) place (modrm_control f p.reg p.rm both.0 h.place))
+    zero_has P _ _ p.imm (zero_is k p.imm p.sel both.1 h.number)
+    (all p.rm p.reg (safe_place p.rm place h.a_is) place (modrm_control f p.reg p.rm both.0 h.place))
 read_control_is P all _ _ k p t h = absurd cc
 
 pub write_control_is : (P : Shape) → ((c : ℕ) (b : Operand) → is_control c ≡ true → IsOperand b → PlaceKind b → P (operand.Control c) b 0)
-    → (os : Operands) (addr : Addressing) (k : Immediate) (p : Parts) → special_row operands.ControlRm os addr k ≡ true → Facts os addr k p → Has P os p
+    → (os : Operands) (addr : Addressing) (k : Immediate) (p : Parts) → special_row operands.ControlRm os addr k ≡ true
+    → Facts os addr k p → Has P os p
 write_control_is P all operands.ControlRm (addressing.Modrm f) k p t h =
     let place = modrm_place f p.reg p.rm h.place in
     let both = and_parts (control_slash f.slash) (no_number k) t in
-    zero_has P _ _ p.imm (zero_is k p.imm p.sel both.1 h.number) (all p.reg p.rm (modrm_control f p.reg p.rm both.0 h.place) (safe_place p.rm place h.b_is) place)
+    zero_has P _ _ p.imm (zero_is k p.imm p.sel both.1 h.number)
+    (all p.reg p.rm (modrm_control f p.reg p.rm both.0 h.place) (safe_place p.rm place h.b_is) place)
 write_control_is P all _ _ k p t h = absurd cc
 
 -- PUSH and POP of a segment register
@@ -456,33 +504,39 @@ abbrev pub bare_row : Operands → Bool
 bare_row operands.Nothing = true
 bare_row _ = false
 
-pub bare_is : (P : Shape) (imm : ℕ) → P operand.Absent operand.Absent imm → (os : Operands) (p : Parts) → bare_row os ≡ true → P (operands_of os p).0 (operands_of os p).1 imm
+pub bare_is : (P : Shape) (imm : ℕ) → P operand.Absent operand.Absent imm → (os : Operands) (p : Parts) → bare_row os ≡ true
+    → P (operands_of os p).0 (operands_of os p).1 imm
 bare_is P imm all operands.Nothing p t = all
 bare_is P imm all _ p t = absurd cc
 
-pub nothing_is : (P : Shape) → P operand.Absent operand.Absent 0 → (os : Operands) (addr : Addressing) (k : Immediate) (p : Parts) → (bare_row os && no_number k) ≡ true → Facts os addr k p → Has P os p
+pub nothing_is : (P : Shape) → P operand.Absent operand.Absent 0 → (os : Operands) (addr : Addressing) (k : Immediate) (p : Parts)
+    → (bare_row os && no_number k) ≡ true → Facts os addr k p → Has P os p
 nothing_is P all os addr k p t h =
     let both = and_parts (bare_row os) (no_number k) t in
     zero_has P _ _ p.imm (zero_is k p.imm p.sel both.1 h.number) (bare_is P 0 all os p both.0)
 
-pub byte_alone_is : (P : Shape) → ((imm : ℕ) → imm < 256 → P operand.Absent operand.Absent imm) → (os : Operands) (addr : Addressing) (k : Immediate) (p : Parts) → (bare_row os && a_byte k) ≡ true → Facts os addr k p → Has P os p
+pub byte_alone_is : (P : Shape) → ((imm : ℕ) → imm < 256 → P operand.Absent operand.Absent imm)
+    → (os : Operands) (addr : Addressing) (k : Immediate) (p : Parts) → (bare_row os && a_byte k) ≡ true → Facts os addr k p → Has P os p
 byte_alone_is P all os addr k p t h =
     let both = and_parts (bare_row os) (a_byte k) t in
     bare_is P p.imm (all p.imm (byte_is k p.imm p.sel both.1 h.number)) os p both.0
 
-pub drop_alone_is : (P : Shape) → ((imm : ℕ) → imm < 65536 → P operand.Absent operand.Absent imm) → (os : Operands) (addr : Addressing) (k : Immediate) (p : Parts) → (bare_row os && a_drop k) ≡ true → Facts os addr k p → Has P os p
+pub drop_alone_is : (P : Shape) → ((imm : ℕ) → imm < 65536 → P operand.Absent operand.Absent imm)
+    → (os : Operands) (addr : Addressing) (k : Immediate) (p : Parts) → (bare_row os && a_drop k) ≡ true → Facts os addr k p → Has P os p
 drop_alone_is P all os addr k p t h =
     let both = and_parts (bare_row os) (a_drop k) t in
     bare_is P p.imm (all p.imm (drop_is k p.imm p.sel both.1 h.number)) os p both.0
 
-pub long_alone_is : (P : Shape) → ((imm : ℕ) → imm < 2 ^ 32 → P operand.Absent operand.Absent imm) → (os : Operands) (addr : Addressing) (k : Immediate) (p : Parts) → bare_row os ≡ true → Facts os addr k p → Has P os p
+pub long_alone_is : (P : Shape) → ((imm : ℕ) → imm < 2 ^ 32 → P operand.Absent operand.Absent imm)
+    → (os : Operands) (addr : Addressing) (k : Immediate) (p : Parts) → bare_row os ≡ true → Facts os addr k p → Has P os p
 long_alone_is P all os addr k p t h = bare_is P p.imm (all p.imm h.small) os p t
 
 abbrev pub push_row : Operands → Addressing → Immediate → Bool
 push_row operands.Nothing a k = true
 push_row os a k = one_row os a k
 
-pub push_is : (P : Shape) → ((imm : ℕ) → imm < 2 ^ 32 → P operand.Absent operand.Absent imm) → ((a : Operand) → IsOperand a → PlaceKind a → P a operand.Absent 0)
+pub push_is : (P : Shape) → ((imm : ℕ) → imm < 2 ^ 32 → P operand.Absent operand.Absent imm)
+    → ((a : Operand) → IsOperand a → PlaceKind a → P a operand.Absent 0)
     → (os : Operands) (addr : Addressing) (k : Immediate) (p : Parts) → push_row os addr k ≡ true → Facts os addr k p → Has P os p
 push_is P number one operands.Nothing addr k p t h = number p.imm h.small
 push_is P number one os addr k p t h = one_is P one os addr k p t h

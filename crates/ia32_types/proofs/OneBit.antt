@@ -13,7 +13,8 @@ parts : (n at : ℕ) (b : Bool) → with_bit n at b ≡ (n / 2 ^ at / 2 * 2 + wo
 parts n at b =
     let whole = shr_split n at in
     let half : n / 2 ^ at ≡ n / 2 ^ at / 2 * 2 + n / 2 ^ at % 2 = omega arith in
-    let times : n / 2 ^ at * 2 ^ at ≡ n / 2 ^ at / 2 * 2 * 2 ^ at + n / 2 ^ at % 2 * 2 ^ at = ap (λ (x : ℕ). x * 2 ^ at) half ∙ omega arith in
+    let times : n / 2 ^ at * 2 ^ at ≡ n / 2 ^ at / 2 * 2 * 2 ^ at + n / 2 ^ at % 2 * 2 ^ at =
+    ap (λ (x : ℕ). x * 2 ^ at) half ∙ omega arith in
     omega (arith, whole, times)
 
 below : (n at : ℕ) → n % 2 ^ at < 2 ^ at

@@ -64,7 +64,8 @@ same_site s t e =
     ∙ ap (λ n. record { at = t.at; kind = t.kind; len = t.len; total = n }) total
 
 pub is_itself : (s : Site) → is_same s s ≡ true
-is_itself s = rw (eq-eqb s.at s.at refl, eq-eqb (number s.kind) (number s.kind) refl, eq-eqb s.len s.len refl, eq-eqb s.total s.total refl) refl
+is_itself s =
+    rw (eq-eqb s.at s.at refl, eq-eqb (number s.kind) (number s.kind) refl, eq-eqb s.len s.len refl, eq-eqb s.total s.total refl) refl
 
 found_same : (b : Bool) (x : Option ℕ) (at : ℕ) → cond b x (Some at) ≡ None → (b ≡ true) × (x ≡ None)
 found_same true x at e = (refl, e)
@@ -97,7 +98,8 @@ sites_there sites ps e =
 abbrev some_sites : List Site → Option (List Site)
 some_sites ss = Some ss
 
-pub were_found : (sites : List Site) (found : List Site) (lacking : Option ℕ) → unless_lacking found lacking ≡ some_sites sites → (lacking ≡ None) × (found ≡ sites)
+pub were_found : (sites : List Site) (found : List Site) (lacking : Option ℕ) → unless_lacking found lacking ≡ some_sites sites
+    → (lacking ≡ None) × (found ≡ sites)
 were_found sites found None e = (refl, cc)
 were_found sites found (Some at) e = absurd cc
 
@@ -121,7 +123,8 @@ is_inside_so at s e =
 true_not_false : true ≡ false → ⊥
 true_not_false e = cc
 
-pub entrance_is : (swept : List Swept) (sites : List Site) (at : ℕ) → is_entrance (map piece_of swept) sites at ≡ true → IsEntrance swept sites at
+pub entrance_is : (swept : List Swept) (sites : List Site) (at : ℕ) → is_entrance (map piece_of swept) sites at ≡ true
+    → IsEntrance swept sites at
 entrance_is swept sites at e =
     let h = and_parts (is_piece_start (map piece_of swept) at) (not (list_any (is_inside at) sites)) e in
     let none = not-true (list_any (is_inside at) sites) h.1 in
@@ -129,14 +132,17 @@ entrance_is swept sites at e =
       start = any_contains (map (λ (s : Swept). s.at) swept) at (sym (any_at swept at) ∙ h.0);
       outside = λ s there before.
           elim (cases_lt at (s.at + s.total)) [
-            | inl lt ↦ absurd (true_not_false (sym (list_any-from_Any (is_inside at) sites (there.0, s, there.1, there.2, inside_is at s before lt)) ∙ none))
+            | inl lt ↦ absurd (true_not_false
+                (sym (list_any-from_Any (is_inside at) sites (there.0, s, there.1, there.2, inside_is at s before lt)) ∙ none))
             | inr le ↦ le
           ];
     }
 
-pub is_entrance_so : (swept : List Swept) (sites : List Site) (at : ℕ) → IsEntrance swept sites at → is_entrance (map piece_of swept) sites at ≡ true
+pub is_entrance_so : (swept : List Swept) (sites : List Site) (at : ℕ) → IsEntrance swept sites at
+    → is_entrance (map piece_of swept) sites at ≡ true
 is_entrance_so swept sites at h =
-    let start : is_piece_start (map piece_of swept) at ≡ true = any_at swept at ∙ contains_any (map (λ (s : Swept). s.at) swept) at h.start in
+    let start : is_piece_start (map piece_of swept) at ≡ true =
+    any_at swept at ∙ contains_any (map (λ (s : Swept). s.at) swept) at h.start in
     elim (cases_Bool (list_any (is_inside at) sites)) [
       | inl any ↦
           let one = Any-from_list_any (is_inside at) sites any in
@@ -150,13 +156,15 @@ is_entrance_so swept sites at h =
 -- ---- branches
 
 pub branch_role : (s : Swept) → is_direct_branch s.insn.op ≡ true → (piece_of s).role ≡ role.Branch (target_of s.at s.len s.insn)
-branch_role s e = ap (λ b. cond b (role.Branch (target_of s.at s.len s.insn)) (cond (is_nop s.insn.op) role.Nop (site_role (sensitive_kind s.insn)))) e
+branch_role s e =
+    ap (λ b. cond b (role.Branch (target_of s.at s.len s.insn)) (cond (is_nop s.insn.op) role.Nop (site_role (sensitive_kind s.insn)))) e
 
 first_right : (b : Bool) (at : ℕ) (x : Option ℕ) → cond b (Some at) x ≡ None → (b ≡ false) × (x ≡ None)
 first_right true at x e = absurd cc
 first_right false at x e = (refl, e)
 
-targets_right : (entrance : ℕ → Bool) (swept : List Swept) → wrong_target entrance (map piece_of swept) ≡ None → (k : ℕ) (s : Swept) → k < length swept → slice_index_or swept k s ≡ s → is_direct_branch s.insn.op ≡ true → entrance (target_of s.at s.len s.insn) ≡ true
+targets_right : (entrance : ℕ → Bool) (swept : List Swept) → wrong_target entrance (map piece_of swept) ≡ None → (k : ℕ) (s : Swept)
+    → k < length swept → slice_index_or swept k s ≡ s → is_direct_branch s.insn.op ≡ true → entrance (target_of s.at s.len s.insn) ≡ true
 unfolding wrong_target
 targets_right entrance [] e k s lt is branch = absurd (omega arith)
 targets_right entrance (t ∷ swept) e zero s lt is branch =
@@ -175,14 +183,19 @@ pub other_leads : (entrance : ℕ → Bool) (b : Bool) (o : Option SiteKind) →
 other_leads entrance true o = refl
 other_leads entrance false o = site_leads entrance o
 
-one_right : (entrance : ℕ → Bool) (s : Swept) → (is_direct_branch s.insn.op ≡ true → entrance (target_of s.at s.len s.insn) ≡ true) → leads_wrong entrance (piece_of s).role ≡ false
+one_right : (entrance : ℕ → Bool) (s : Swept) → (is_direct_branch s.insn.op ≡ true → entrance (target_of s.at s.len s.insn) ≡ true)
+    → leads_wrong entrance (piece_of s).role ≡ false
 one_right entrance s h =
     elim (cases_Bool (is_direct_branch s.insn.op)) [
       | inl e ↦ ap (leads_wrong entrance) (branch_role s e) ∙ ap not (h e)
-      | inr e ↦ ap (λ b. leads_wrong entrance (cond b (role.Branch (target_of s.at s.len s.insn)) (cond (is_nop s.insn.op) role.Nop (site_role (sensitive_kind s.insn))))) e ∙ other_leads entrance (is_nop s.insn.op) (sensitive_kind s.insn)
+      | inr e ↦ ap (λ b. leads_wrong entrance
+          (cond b (role.Branch (target_of s.at s.len s.insn)) (cond (is_nop s.insn.op) role.Nop (site_role (sensitive_kind s.insn))))) e
+          ∙ other_leads entrance (is_nop s.insn.op) (sensitive_kind s.insn)
     ]
 
-right_targets : (entrance : ℕ → Bool) (swept : List Swept) → ((s : Swept) → Contains swept s → is_direct_branch s.insn.op ≡ true → entrance (target_of s.at s.len s.insn) ≡ true) → wrong_target entrance (map piece_of swept) ≡ None
+right_targets : (entrance : ℕ → Bool) (swept : List Swept)
+    → ((s : Swept) → Contains swept s → is_direct_branch s.insn.op ≡ true → entrance (target_of s.at s.len s.insn) ≡ true)
+    → wrong_target entrance (map piece_of swept) ≡ None
 unfolding wrong_target
 right_targets entrance [] h = refl
 right_targets entrance (t ∷ swept) h =
@@ -194,15 +207,20 @@ right_targets entrance (t ∷ swept) h =
 end_is : (text : List ℕ) (ps : List Piece) → text_end text ps ≡ None → ends_at text (last_at ps) ≡ true
 end_is text ps e = not-false (ends_at text (last_at ps)) (then_none _ (last_at ps) e)
 
-accepted_with : (parts : ImageParts) (sites : List Site) (swept : List Swept) → IsPlaced parts → Sweep parts.text swept → text_end parts.text (map piece_of swept) ≡ None → site_wrong sites (map piece_of swept) ≡ None → wrong_target (is_entrance (map piece_of swept) sites) (map piece_of swept) ≡ None → entry_start parts (map piece_of swept) sites ≡ None → IsAccepted (image_with parts sites)
+accepted_with : (parts : ImageParts) (sites : List Site) (swept : List Swept) → IsPlaced parts → Sweep parts.text swept
+    → text_end parts.text (map piece_of swept) ≡ None → site_wrong sites (map piece_of swept) ≡ None
+    → wrong_target (is_entrance (map piece_of swept) sites) (map piece_of swept) ≡ None
+    → entry_start parts (map piece_of swept) sites ≡ None → IsAccepted (image_with parts sites)
 accepted_with parts sites swept placed is end same targets entry = record {
   within = within_parts parts sites placed;
   swept = swept;
   sweep = is;
   ends = end_is parts.text (map piece_of swept) end;
   sites = sites_there sites (map piece_of swept) same;
-  targets = λ s c branch. entrance_is swept sites (target_of s.at s.len s.insn) (targets_right (is_entrance (map piece_of swept) sites) swept targets c.0 s c.1 c.2 branch);
-  entry = entrance_is swept sites (entry_at parts) (not-false (is_entrance (map piece_of swept) sites (entry_at parts)) (then_none _ (entry_at parts) entry));
+  targets = λ s c branch. entrance_is swept sites (target_of s.at s.len s.insn)
+      (targets_right (is_entrance (map piece_of swept) sites) swept targets c.0 s c.1 c.2 branch);
+  entry = entrance_is swept sites (entry_at parts)
+      (not-false (is_entrance (map piece_of swept) sites (entry_at parts)) (then_none _ (entry_at parts) entry));
 }
 
 pub accepted_from : (parts : ImageParts) (image : Image) → AreBytes parts.text → image_from parts ≡ Ok image → IsAccepted image
@@ -228,7 +246,8 @@ no_size n some few = grind (arith, nat_tests)
 pub not_above : (n limit : ℕ) → n ≤ limit → nat_lt limit n ≡ false
 not_above n limit le = grind (arith, nat_tests)
 
-pub no_entry : (entry len : ℕ) → 0x10000000 ≤ entry → entry < 0x10000000 + len → (nat_lt entry 0x10000000 || not (nat_lt entry (0x10000000 + len))) ≡ false
+pub no_entry : (entry len : ℕ) → 0x10000000 ≤ entry → entry < 0x10000000 + len
+    → (nat_lt entry 0x10000000 || not (nat_lt entry (0x10000000 + len))) ≡ false
 no_entry entry len ge lt = grind (arith, nat_tests)
 
 abbrev ok_image : Image → Result Image Refusal
@@ -238,10 +257,17 @@ pub swept_gives : (text : List ℕ) (swept : List Swept) → sweep text ≡ Ok s
 unfolding pieces_in
 swept_gives text swept e = ap (pieces_of text) e
 
-placed_right : (parts : ImageParts) (sites : List Site) → parts.text_at ≡ 0x10000000 → parts.init_at ≡ 0x11000000 → IsWithin (image_with parts sites) → placed parts ≡ Ok tt
+placed_right : (parts : ImageParts) (sites : List Site) → parts.text_at ≡ 0x10000000 → parts.init_at ≡ 0x11000000
+    → IsWithin (image_with parts sites) → placed parts ≡ Ok tt
 unfolding placed
 placed_right parts sites text init w =
-    rw (text_right parts text, init_right parts init, size_right parts sites w, few_right parts sites w, entry_right parts sites w) refl where
+    rw (
+      text_right parts text,
+      init_right parts init,
+      size_right parts sites w,
+      few_right parts sites w,
+      entry_right parts sites w,
+    ) refl where
       text_right : (p : ImageParts) → p.text_at ≡ 0x10000000 → text_place p ≡ None
       text_right p e = ap (λ b. then_some (not b) 0) (eq-eqb p.text_at 0x10000000 e)
 
@@ -257,11 +283,14 @@ placed_right parts sites text init w =
       entry_right : (p : ImageParts) (ss : List Site) → IsWithin (image_with p ss) → entry_place p ≡ None
       entry_right p ss h = ap (λ b. then_some b 0) (no_entry p.entry (length p.text) h.entry.0 h.entry.1)
 
-passes : (parts : ImageParts) (sites : List Site) (ps : List Piece) → placed parts ≡ Ok tt → pieces_in parts.text ≡ Ok ps → text_end parts.text ps ≡ None → listed parts.sites ≡ Ok sites → site_wrong sites ps ≡ None → wrong_target (is_entrance ps sites) ps ≡ None → entry_start parts ps sites ≡ None → image_from parts ≡ Ok (image_with parts sites)
+passes : (parts : ImageParts) (sites : List Site) (ps : List Piece) → placed parts ≡ Ok tt → pieces_in parts.text ≡ Ok ps
+    → text_end parts.text ps ≡ None → listed parts.sites ≡ Ok sites → site_wrong sites ps ≡ None
+    → wrong_target (is_entrance ps sites) ps ≡ None → entry_start parts ps sites ≡ None → image_from parts ≡ Ok (image_with parts sites)
 unfolding image_from annotated entered
 passes parts sites ps place swept end read same targets entry = rw (place, swept, end, read, same, targets, entry) refl
 
-pub from_accepted : (parts : ImageParts) (sites : List Site) → AreBytes parts.text → parts.text_at ≡ 0x10000000 → parts.init_at ≡ 0x11000000 → listed parts.sites ≡ Ok sites → IsAccepted (image_with parts sites) → image_from parts ≡ Ok (image_with parts sites)
+pub from_accepted : (parts : ImageParts) (sites : List Site) → AreBytes parts.text → parts.text_at ≡ 0x10000000 → parts.init_at ≡ 0x11000000
+    → listed parts.sites ≡ Ok sites → IsAccepted (image_with parts sites) → image_from parts ≡ Ok (image_with parts sites)
 from_accepted parts sites fit text init read h =
     let swept = (sweep_exact parts.text fit h.swept).1 h.sweep in
     passes parts sites (map piece_of h.swept)
@@ -270,7 +299,8 @@ from_accepted parts sites fit text init read h =
     (right_end parts.text (map piece_of h.swept) h.ends)
     read
     (sites_right sites (map piece_of h.swept) h.sites)
-    (right_targets (is_entrance (map piece_of h.swept) sites) h.swept (λ s c branch. is_entrance_so h.swept sites (target_of s.at s.len s.insn) (h.targets s c branch)))
+    (right_targets (is_entrance (map piece_of h.swept) sites) h.swept
+    (λ s c branch. is_entrance_so h.swept sites (target_of s.at s.len s.insn) (h.targets s c branch)))
     (ap (λ b. then_some (not b) (entry_at parts)) (is_entrance_so h.swept sites (entry_at parts) h.entry))
 
 -- ---- the file
@@ -280,12 +310,16 @@ form_read (Ok p) parts e = cc
 form_read (Err f) parts e = absurd cc
 
 placed_text : (parts : ImageParts) → IsPlaced parts → (parts.text_at ≡ 0x10000000) × (parts.init_at ≡ 0x11000000)
-placed_text parts p = (eqb-true parts.text_at 0x10000000 (not-false _ (then_none _ 0 p.text_at)), eqb-true parts.init_at 0x11000000 (not-false _ (then_none _ 0 p.init_at)))
+placed_text parts p = (
+  eqb-true parts.text_at 0x10000000 (not-false _ (then_none _ 0 p.text_at)),
+  eqb-true parts.init_at 0x11000000 (not-false _ (then_none _ 0 p.init_at)),
+)
 
 abbrev ok_sites : List Site → ℕ → Result SitesParts ℕ
 ok_sites sites format = Ok (of_format sites format)
 
-accepts_from : (file : List ℕ) (parts : ImageParts) (image : Image) → AreBytes parts.text → ImageAs file parts → image_from parts ≡ Ok image → Accepts file image
+accepts_from : (file : List ℕ) (parts : ImageParts) (image : Image) → AreBytes parts.text → ImageAs file parts → image_from parts ≡ Ok image
+    → Accepts file image
 accepts_from file parts image fit form e =
     let p = has_passed parts image e in
     let at = placed_text parts p.places in
@@ -295,7 +329,8 @@ accepts_from file parts image fit form e =
       form = form;
       text_at = at.0;
       init_at = at.1;
-      annotated = whole parts.sites image.sites (subst (λ (ss : List Site). listed parts.sites ≡ Ok ss) sites p.read) ∙ ap (ok_sites image.sites) (ap (λ (i : Image). i.format) p.image_is);
+      annotated = whole parts.sites image.sites (subst (λ (ss : List Site). listed parts.sites ≡ Ok ss) sites p.read)
+          ∙ ap (ok_sites image.sites) (ap (λ (i : Image). i.format) p.image_is);
       image_is = sym p.image_is ∙ ap (image_with parts) sites;
       accepted = accepted_from parts image fit e;
     }
@@ -312,5 +347,6 @@ unfolding image_of
 accepts_image file image fit h =
     let read : image_in file ≡ Ok h.parts = as_read file h.parts h.form in
     let accepted = subst IsAccepted h.image_is h.accepted in
-    let whole = from_accepted h.parts image.sites (text_bytes file h.parts h.form fit) h.text_at h.init_at (ap list_of h.annotated) accepted in
+    let whole =
+    from_accepted h.parts image.sites (text_bytes file h.parts h.form fit) h.text_at h.init_at (ap list_of h.annotated) accepted in
     rw read (whole ∙ ap ok_image (sym h.image_is))

@@ -17,5 +17,6 @@ begun_has_byte bytes insn zero h = absurd (spelled_has_byte insn h.front)
 begun_has_byte bytes insn (suc n) h = omega arith
 
 -- within the text
-pub begun_within : (len at : ℕ) (left : List ℕ) (insn : Insn) (n : ℕ) → length left + at ≤ len → Begins left insn n → (1 ≤ n) × (at + n ≤ len)
+pub begun_within : (len at : ℕ) (left : List ℕ) (insn : Insn) (n : ℕ) → length left + at ≤ len → Begins left insn n
+    → (1 ≤ n) × (at + n ≤ len)
 begun_within len at left insn n room h = (begun_has_byte left insn n h, let few = h.within in omega (arith, few))

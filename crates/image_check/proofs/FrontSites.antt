@@ -42,13 +42,17 @@ module _ (p : Piece) (ps : List Piece) where
       ∙ ap (λ n. with_site (pair p) (found_behind n ps)) four
       ∙ ap (with_site (pair p)) (behind_is 4 ps)
 
-  alone_is : (kind : SiteKind) → p.role ≡ role.Site kind → (is_sti p.role && has_hlt ps) ≡ false → (b : Bool) → has_nops (max 5 p.len - p.len) ps ≡ b → begun_by p ps ≡ cond b (here.Makes (single p kind)) here.Lacks
-  alone_is kind is unpaired b e = begun_is false unpaired ∙ ap (by_role p ps) is ∙ ap (λ c. cond c (here.Makes (single p kind)) here.Lacks) e
+  alone_is : (kind : SiteKind) → p.role ≡ role.Site kind → (is_sti p.role && has_hlt ps) ≡ false → (b : Bool)
+      → has_nops (max 5 p.len - p.len) ps ≡ b → begun_by p ps ≡ cond b (here.Makes (single p kind)) here.Lacks
+  alone_is kind is unpaired b e =
+      begun_is false unpaired ∙ ap (by_role p ps) is ∙ ap (λ c. cond c (here.Makes (single p kind)) here.Lacks) e
 
-  pub alone_first : (kind : SiteKind) → p.role ≡ role.Site kind → (is_sti p.role && has_hlt ps) ≡ false → has_nops (max 5 p.len - p.len) ps ≡ true → found_in (p ∷ ps) ≡ with_site (single p kind) (found_in (drop (max 5 p.len - p.len) ps))
+  pub alone_first : (kind : SiteKind) → p.role ≡ role.Site kind → (is_sti p.role && has_hlt ps) ≡ false
+      → has_nops (max 5 p.len - p.len) ps ≡ true → found_in (p ∷ ps) ≡ with_site (single p kind) (found_in (drop (max 5 p.len - p.len) ps))
   alone_first kind is unpaired e =
       look (here.Makes (single p kind)) (alone_is kind is unpaired true e)
       ∙ ap (with_site (single p kind)) (behind_is (max 5 p.len - p.len) ps)
 
-  pub lacking_first : (kind : SiteKind) → p.role ≡ role.Site kind → (is_sti p.role && has_hlt ps) ≡ false → has_nops (max 5 p.len - p.len) ps ≡ false → found_in (p ∷ ps) ≡ record { sites = []; lacking = Some p.at }
+  pub lacking_first : (kind : SiteKind) → p.role ≡ role.Site kind → (is_sti p.role && has_hlt ps) ≡ false
+      → has_nops (max 5 p.len - p.len) ps ≡ false → found_in (p ∷ ps) ≡ record { sites = []; lacking = Some p.at }
   lacking_first kind is unpaired e = look here.Lacks (alone_is kind is unpaired false e)

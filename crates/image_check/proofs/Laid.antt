@@ -34,7 +34,8 @@ first_in x xs = (0, omega arith, refl)
 pub later_in : {X : Type 0} (x : X) (xs : List X) (y : X) → Contains xs y → Contains (x ∷ xs) y
 later_in x xs y c = (suc c.0, omega (arith, c.1), c.2)
 
-in_cases : {X : Type 0} (x : X) (xs : List X) (y : X) (k : ℕ) → k < length (x ∷ xs) → slice_index_or (x ∷ xs) k y ≡ y → (x ≡ y) ⊎ Contains xs y
+in_cases : {X : Type 0} (x : X) (xs : List X) (y : X) (k : ℕ) → k < length (x ∷ xs) → slice_index_or (x ∷ xs) k y ≡ y
+    → (x ≡ y) ⊎ Contains xs y
 in_cases x xs y zero lt is = inl is
 in_cases x xs y (suc k) lt is = inr (k, omega arith, is)
 
@@ -64,7 +65,8 @@ no_nop_role : (o : Option SiteKind) → is_nop_role (site_role o) ≡ true → �
 no_nop_role None e = cc
 no_nop_role (Some k) e = cc
 
-role_nop : (target : ℕ) (a b : Bool) (o : Option SiteKind) → is_nop_role (cond a (role.Branch target) (cond b role.Nop (site_role o))) ≡ true → b ≡ true
+role_nop : (target : ℕ) (a b : Bool) (o : Option SiteKind)
+    → is_nop_role (cond a (role.Branch target) (cond b role.Nop (site_role o))) ≡ true → b ≡ true
 role_nop target true b o e = absurd cc
 role_nop target false true o e = refl
 role_nop target false false o e = absurd (no_nop_role o e)
@@ -79,7 +81,8 @@ unfolding not_site
 site_not None e = refl
 site_not (Some k) e = absurd cc
 
-role_plain : (target : ℕ) (a b : Bool) (o : Option SiteKind) → (a ≡ true → o ≡ None) → (b ≡ true → o ≡ None) → not_site (cond a (role.Branch target) (cond b role.Nop (site_role o))) ≡ true → o ≡ None
+role_plain : (target : ℕ) (a b : Bool) (o : Option SiteKind) → (a ≡ true → o ≡ None) → (b ≡ true → o ≡ None)
+    → not_site (cond a (role.Branch target) (cond b role.Nop (site_role o))) ≡ true → o ≡ None
 role_plain target true b o first second e = first refl
 role_plain target false true o first second e = second refl
 role_plain target false false o first second e = site_not o e
@@ -88,19 +91,23 @@ site_is : (o : Option SiteKind) (kind : SiteKind) → site_role o ≡ role.Site 
 site_is None kind e = absurd cc
 site_is (Some k) kind e = cc
 
-role_site : (target : ℕ) (a b : Bool) (o : Option SiteKind) (kind : SiteKind) → cond a (role.Branch target) (cond b role.Nop (site_role o)) ≡ role.Site kind → o ≡ Some kind
+role_site : (target : ℕ) (a b : Bool) (o : Option SiteKind) (kind : SiteKind) → cond a (role.Branch target) (cond b role.Nop (site_role o))
+    ≡ role.Site kind → o ≡ Some kind
 role_site target true b o kind e = absurd cc
 role_site target false true o kind e = absurd cc
 role_site target false false o kind e = site_is o kind e
 
 is_insensitive : (s : Swept) → not_site (piece_of s).role ≡ true → sensitive_kind s.insn ≡ None
-is_insensitive s e = role_plain (target_of s.at s.len s.insn) (is_direct_branch s.insn.op) (pieces.is_nop s.insn.op) (kind_of s.insn.op) (branch_kind s.insn.op) (nop_kind s.insn.op) e
+is_insensitive s e = role_plain (target_of s.at s.len s.insn) (is_direct_branch s.insn.op) (pieces.is_nop s.insn.op) (kind_of s.insn.op)
+    (branch_kind s.insn.op) (nop_kind s.insn.op) e
 
 is_sensitive : (s : Swept) (kind : SiteKind) → (piece_of s).role ≡ role.Site kind → sensitive_kind s.insn ≡ Some kind
-is_sensitive s kind e = role_site (target_of s.at s.len s.insn) (is_direct_branch s.insn.op) (pieces.is_nop s.insn.op) (kind_of s.insn.op) kind e
+is_sensitive s kind e =
+    role_site (target_of s.at s.len s.insn) (is_direct_branch s.insn.op) (pieces.is_nop s.insn.op) (kind_of s.insn.op) kind e
 
 is_padding : (s : Swept) → is_nop_role (piece_of s).role ≡ true → s.insn.op ≡ op.Nop
-is_padding s e = nop_is s.insn.op (role_nop (target_of s.at s.len s.insn) (is_direct_branch s.insn.op) (pieces.is_nop s.insn.op) (kind_of s.insn.op) e)
+is_padding s e =
+    nop_is s.insn.op (role_nop (target_of s.at s.len s.insn) (is_direct_branch s.insn.op) (pieces.is_nop s.insn.op) (kind_of s.insn.op) e)
 
 sti_role : (r : Role) → is_sti r ≡ true → r ≡ role.Site Sti
 sti_role (role.Site Sti) e = refl
@@ -113,7 +120,8 @@ hlt_role _ e = absurd cc
 -- ---- what an instruction begins
 
 abbrev IsSingle : Swept → List Swept → Site → Type 0
-IsSingle s swept site = (kind : SiteKind) × (site ≡ single (piece_of s) kind) × (sensitive_kind s.insn ≡ Some kind) × (has_nops (max 5 s.len - s.len) (map piece_of swept) ≡ true)
+IsSingle s swept site = (kind : SiteKind) × (site ≡ single (piece_of s) kind) × (sensitive_kind s.insn ≡ Some kind)
+    × (has_nops (max 5 s.len - s.len) (map piece_of swept) ≡ true)
 
 abbrev IsPair : Swept → List Swept → Site → Type 0
 IsPair s swept site = (site ≡ pair (piece_of s)) × (sensitive_kind s.insn ≡ Some Sti) × (s.len ≡ 1) × (has_hlt (map piece_of swept) ≡ true)
@@ -123,30 +131,36 @@ BeginsAs s swept here.Nothing = sensitive_kind s.insn ≡ None
 BeginsAs s swept here.Lacks = Unit {0}
 BeginsAs s swept (here.Makes site) = IsSingle s swept site ⊎ IsPair s swept site
 
-padded_as : (s : Swept) (swept : List Swept) (kind : SiteKind) → (piece_of s).role ≡ role.Site kind → BeginsAs s swept (padded (piece_of s) (map piece_of swept) kind)
+padded_as : (s : Swept) (swept : List Swept) (kind : SiteKind) → (piece_of s).role ≡ role.Site kind
+    → BeginsAs s swept (padded (piece_of s) (map piece_of swept) kind)
 padded_as s swept kind e =
     elim (cases_Bool (has_nops (max 5 s.len - s.len) (map piece_of swept))) [
-      | inl good ↦ subst (λ b. BeginsAs s swept (cond b (here.Makes (single (piece_of s) kind)) here.Lacks)) (sym good) (inl (kind, refl, is_sensitive s kind e, good))
+      | inl good ↦ subst (λ b. BeginsAs s swept (cond b (here.Makes (single (piece_of s) kind)) here.Lacks)) (sym good)
+          (inl (kind, refl, is_sensitive s kind e, good))
       | inr bad ↦ subst (λ b. BeginsAs s swept (cond b (here.Makes (single (piece_of s) kind)) here.Lacks)) (sym bad) tt
     ]
 
-role_as : (s : Swept) (swept : List Swept) (r : Role) → (piece_of s).role ≡ r → BeginsAs s swept (by_role (piece_of s) (map piece_of swept) r)
+role_as : (s : Swept) (swept : List Swept) (r : Role) → (piece_of s).role ≡ r
+    → BeginsAs s swept (by_role (piece_of s) (map piece_of swept) r)
 unfolding not_site
 role_as s swept (role.Site kind) e = padded_as s swept kind e
 role_as s swept role.Plain e = is_insensitive s (ap not_site e)
 role_as s swept role.Nop e = is_insensitive s (ap not_site e)
 role_as s swept (role.Branch target) e = is_insensitive s (ap not_site e)
 
-begun_as : (bytes : List ℕ) (s : Swept) (swept : List Swept) → Begins bytes s.insn s.len → BeginsAs s swept (begun_by (piece_of s) (map piece_of swept))
+begun_as : (bytes : List ℕ) (s : Swept) (swept : List Swept) → Begins bytes s.insn s.len
+    → BeginsAs s swept (begun_by (piece_of s) (map piece_of swept))
 unfolding begun_by
 begun_as bytes s swept h =
     elim (cases_Bool (is_sti (piece_of s).role && has_hlt (map piece_of swept))) [
       | inl good ↦
           let two = and_parts (is_sti (piece_of s).role) (has_hlt (map piece_of swept)) good in
-          subst (λ b. BeginsAs s swept (cond b (here.Makes (pair (piece_of s))) (by_role (piece_of s) (map piece_of swept) (piece_of s).role))) (sym good)
+          subst (λ b. BeginsAs s swept
+          (cond b (here.Makes (pair (piece_of s))) (by_role (piece_of s) (map piece_of swept) (piece_of s).role))) (sym good)
           (inr (refl, is_sensitive s Sti (sti_role (piece_of s).role two.0), begun_one bytes s.insn s.len h (sti_piece s two.0), two.1))
       | inr bad ↦
-          subst (λ b. BeginsAs s swept (cond b (here.Makes (pair (piece_of s))) (by_role (piece_of s) (map piece_of swept) (piece_of s).role))) (sym bad)
+          subst (λ b. BeginsAs s swept
+          (cond b (here.Makes (pair (piece_of s))) (by_role (piece_of s) (map piece_of swept) (piece_of s).role))) (sym bad)
           (role_as s swept (piece_of s).role refl)
     ]
 
@@ -197,11 +211,13 @@ pub AreApart-lower : (low from : ℕ) (sites : List Site) (to : ℕ) → low ≤
 AreApart-lower low from [] to le h = omega arith
 AreApart-lower low from (s ∷ sites) to le h = let first = h.0 in (omega (arith, first), h.1, h.2)
 
-pub apart_bounds : (from : ℕ) (sites : List Site) (to : ℕ) → AreApart from sites to → (site : Site) → Contains sites site → (from ≤ site.at) × (5 ≤ site.total) × (site.at + site.total ≤ to)
+pub apart_bounds : (from : ℕ) (sites : List Site) (to : ℕ) → AreApart from sites to → (site : Site) → Contains sites site → (from ≤ site.at)
+    × (5 ≤ site.total) × (site.at + site.total ≤ to)
 apart_bounds from [] to h site c = absurd (none_in site c)
 apart_bounds from (s ∷ sites) to h site c =
     elim (first_or_later s sites site c) [
-      | inl e ↦ subst (λ (t : Site). (from ≤ t.at) × (5 ≤ t.total) × (t.at + t.total ≤ to)) e (h.0, h.1, apart_end (s.at + s.total) sites to h.2)
+      | inl e ↦ subst (λ (t : Site). (from ≤ t.at) × (5 ≤ t.total) × (t.at + t.total ≤ to)) e
+          (h.0, h.1, apart_end (s.at + s.total) sites to h.2)
       | inr d ↦
           let later = apart_bounds (s.at + s.total) sites to h.2 site d in
           let first = h.0 in
@@ -223,7 +239,8 @@ no_filler : (hlt : Bool) (from : ℕ) (s : Swept) → IsFiller hlt from 0 s → 
 no_filler hlt from s h = let a = h.above in let b = h.below in omega (arith, a, b)
 
 -- one instruction that is in no site
-plain_first : (from : ℕ) (s : Swept) (swept : List Swept) (sites : List Site) (to : ℕ) → s.at ≡ from → 1 ≤ s.len → sensitive_kind s.insn ≡ None → Behind false 0 (from + s.len) swept sites to → Behind false 0 from (s ∷ swept) sites to
+plain_first : (from : ℕ) (s : Swept) (swept : List Swept) (sites : List Site) (to : ℕ) → s.at ≡ from → 1 ≤ s.len
+    → sensitive_kind s.insn ≡ None → Behind false 0 (from + s.len) swept sites to → Behind false 0 from (s ∷ swept) sites to
 plain_first from s swept sites to at some none h = record {
   apart = AreApart-lower (from + 0) ((from + s.len) + 0) sites to (omega arith) h.apart;
   totals = h.totals;
@@ -256,7 +273,8 @@ record IsSite (hlt : Bool) (n from : ℕ) (s : Swept) (site : Site) : Type 0 whe
   filled : (t : Swept) → IsFiller hlt (from + s.len) n t → PartOf site t
 
 held_later : (site : Site) (sites : List Site) (t : Swept) → IsHeld sites t → IsHeld (site ∷ sites) t
-held_later site sites t h = record { site = h.site; listed = later_in site sites h.site h.listed; part = h.part; begins = h.begins; ends = h.ends }
+held_later site sites t h =
+    record { site = h.site; listed = later_in site sites h.site h.listed; part = h.part; begins = h.begins; ends = h.ends }
 
 clear_later : (site : Site) (sites : List Site) (t : Swept) → site.at + site.total ≤ t.at → IsClear sites t → IsClear (site ∷ sites) t
 clear_later site sites t le h = record {
@@ -267,7 +285,8 @@ clear_later site sites t le h = record {
   ];
 }
 
-site_first : (hlt : Bool) (n from : ℕ) (s : Swept) (site : Site) (swept : List Swept) (sites : List Site) (to : ℕ) → s.at ≡ from → 1 ≤ s.len → IsSite hlt n from s site → Behind hlt n (from + s.len) swept sites to → Behind false 0 from (s ∷ swept) (site ∷ sites) to
+site_first : (hlt : Bool) (n from : ℕ) (s : Swept) (site : Site) (swept : List Swept) (sites : List Site) (to : ℕ) → s.at ≡ from → 1 ≤ s.len
+    → IsSite hlt n from s site → Behind hlt n (from + s.len) swept sites to → Behind false 0 from (s ∷ swept) (site ∷ sites) to
 site_first hlt n from s site swept sites to at some is h =
     let place = is.place in
     let ends = is.ends in
@@ -287,7 +306,13 @@ site_first hlt n from s site swept sites to at some is h =
             | inl e ↦ inr (subst (Lies (from + 0) (site ∷ sites)) e (record {
               above = omega arith;
               some = some;
-              where_it_lies = inr (record { site = site; listed = first_in site sites; part = is.first; begins = omega (arith, place); ends = omega (arith, place, ends) });
+              where_it_lies = inr (record {
+                site = site;
+                listed = first_in site sites;
+                part = is.first;
+                begins = omega (arith, place);
+                ends = omega (arith, place, ends);
+              });
             }))
             | inr d ↦ elim (h.each t d) [
               | inl f ↦
@@ -297,7 +322,14 @@ site_first hlt n from s site swept sites to at some is h =
                   inr (record {
                     above = omega (arith, above);
                     some = omega (arith, one);
-                    where_it_lies = inr (record { site = site; listed = first_in site sites; part = is.filled t f; begins = omega (arith, place, above); ends = omega (arith, high, below, one) });
+                    where_it_lies =
+                        inr (record {
+                          site = site;
+                          listed = first_in site sites;
+                          part = is.filled t f;
+                          begins = omega (arith, place, above);
+                          ends = omega (arith, high, below, one);
+                        });
                   })
               | inr l ↦
                   let above = l.above in
@@ -316,7 +348,8 @@ site_first hlt n from s site swept sites to at some is h =
 -- ---- the whole text
 
 -- one instruction that fills a site up
-filler_first : (hlt : Bool) (n from : ℕ) (s : Swept) (swept : List Swept) (sites : List Site) (to : ℕ) → s.at ≡ from → s.len ≡ 1 → Filler hlt from s → Behind false n (from + s.len) swept sites to → Behind hlt (suc n) from (s ∷ swept) sites to
+filler_first : (hlt : Bool) (n from : ℕ) (s : Swept) (swept : List Swept) (sites : List Site) (to : ℕ) → s.at ≡ from → s.len ≡ 1
+    → Filler hlt from s → Behind false n (from + s.len) swept sites to → Behind hlt (suc n) from (s ∷ swept) sites to
 filler_first hlt n from s swept sites to at one is h =
     let next : (from + s.len) + n ≡ from + suc n = omega (arith, one) in
     record {
@@ -329,7 +362,12 @@ filler_first hlt n from s swept sites to at one is h =
           | inl f ↦
               let above = f.above in
               let below = f.below in
-              inl (record { above = omega (arith, above); below = omega (arith, next, below); one = f.one; is = still hlt t (omega (arith, above, one)) f.is })
+              inl (record {
+                above = omega (arith, above);
+                below = omega (arith, next, below);
+                one = f.one;
+                is = still hlt t (omega (arith, above, one)) f.is;
+              })
           | inr l ↦ inr (subst (λ (k : ℕ). Lies k sites t) next l)
         ]
       ];
@@ -339,7 +377,8 @@ filler_first hlt n from s swept sites to at one is h =
     still false t le e = e
     still true t le e = inl (le, e)
 
-single_site : (from : ℕ) (s : Swept) (kind : SiteKind) → s.at ≡ from → 1 ≤ s.len → sensitive_kind s.insn ≡ Some kind → IsSite false (max 5 s.len - s.len) from s (single (piece_of s) kind)
+single_site : (from : ℕ) (s : Swept) (kind : SiteKind) → s.at ≡ from → 1 ≤ s.len → sensitive_kind s.insn ≡ Some kind
+    → IsSite false (max 5 s.len - s.len) from s (single (piece_of s) kind)
 single_site from s kind at some is = record {
   place = at;
   ends = omega arith;
@@ -360,16 +399,20 @@ pair_site from s at one is = record {
   first = PairSti (record { pair = (refl, refl); place = refl; len = one; kind = is });
   filled = λ t f. elim f.is [
     | inl nop ↦ let above = nop.0 in Padding (record { behind = omega (arith, above, at, one); len = f.one; nop = nop.1 })
-    | inr hlt ↦ let place = hlt.0 in PairHlt (record { pair = (refl, refl); place = omega (arith, place, at, one); len = f.one; kind = hlt.1 })
+    | inr hlt ↦ let place =
+        hlt.0 in PairHlt (record { pair = (refl, refl); place = omega (arith, place, at, one); len = f.one; kind = hlt.1 })
   ];
 }
 
 abbrev Later : ℕ → List Swept → ℕ → Type 0
-Later from swept to = (hlt : Bool) (n : ℕ) → Fills hlt n (map piece_of swept) → (found_behind n (map piece_of swept)).lacking ≡ None → Behind hlt n from swept (found_behind n (map piece_of swept)).sites to
+Later from swept to = (hlt : Bool) (n : ℕ) → Fills hlt n (map piece_of swept) → (found_behind n (map piece_of swept)).lacking ≡ None
+    → Behind hlt n from swept (found_behind n (map piece_of swept)).sites to
 
-begun_first : (from : ℕ) (s : Swept) (swept : List Swept) (to : ℕ) → s.at ≡ from → 1 ≤ s.len → Later (from + s.len) swept to → (h : Here) → BeginsAs s swept h → (found_by (piece_of s) (λ n. found_behind n (map piece_of swept)) h).lacking ≡ None
+begun_first : (from : ℕ) (s : Swept) (swept : List Swept) (to : ℕ) → s.at ≡ from → 1 ≤ s.len → Later (from + s.len) swept to → (h : Here)
+    → BeginsAs s swept h → (found_by (piece_of s) (λ n. found_behind n (map piece_of swept)) h).lacking ≡ None
     → Behind false 0 from (s ∷ swept) (found_by (piece_of s) (λ n. found_behind n (map piece_of swept)) h).sites to
-begun_first from s swept to at some later here.Nothing is none = plain_first from s swept _ to at some is (later false 0 (nops_zero (map piece_of swept)) none)
+begun_first from s swept to at some later here.Nothing is none =
+    plain_first from s swept _ to at some is (later false 0 (nops_zero (map piece_of swept)) none)
 begun_first from s swept to at some later here.Lacks is none = absurd cc
 begun_first from s swept to at some later (here.Makes site) (inl one) none =
     let n = max 5 s.len - s.len in
@@ -389,7 +432,8 @@ begun_first from s swept to at some later (here.Makes site) (inr two) none =
     (subst (IsSite true 4 from s) (sym two.0) (pair_site from s at two.2 two.1))
     (subst (λ (f : Found). Behind true 4 (from + s.len) swept f.sites to) same h)
 
-laid_behind : (hlt : Bool) (n from : ℕ) (bytes : List ℕ) (swept : List Swept) (to : ℕ) (left : List ℕ) → SweepsTo from bytes swept to left → Fills hlt n (map piece_of swept) → (found_behind n (map piece_of swept)).lacking ≡ None
+laid_behind : (hlt : Bool) (n from : ℕ) (bytes : List ℕ) (swept : List Swept) (to : ℕ) (left : List ℕ) → SweepsTo from bytes swept to left
+    → Fills hlt n (map piece_of swept) → (found_behind n (map piece_of swept)).lacking ≡ None
     → Behind hlt n from swept (found_behind n (map piece_of swept)).sites to
 unfolding found_behind has_nops
 laid_behind true zero from bytes swept to left h f none = absurd (let e = f.0 in omega (arith, e))
@@ -409,10 +453,14 @@ laid_behind true (suc n) from bytes (s ∷ swept) to left h f none =
     let two = and_parts (is_hlt (piece_of s).role) (has_nops 3 (map piece_of swept)) f.1 in
     let e = f.0 in
     let three : 3 ≡ n = omega (arith, e) in
-    filler_first true n from s swept _ to h.0 (begun_one bytes s.insn s.len h.1 (hlt_piece s two.0)) (inr (h.0, is_sensitive s Hlt (hlt_role (piece_of s).role two.0)))
-    (laid_behind false n (from + s.len) (drop s.len bytes) swept to left h.2 (subst (λ k. has_nops k (map piece_of swept) ≡ true) three two.1) none)
+    filler_first true n from s swept _ to h.0 (begun_one bytes s.insn s.len h.1 (hlt_piece s two.0))
+    (inr (h.0, is_sensitive s Hlt (hlt_role (piece_of s).role two.0)))
+    (laid_behind false n (from + s.len) (drop s.len bytes) swept to left h.2
+    (subst (λ k. has_nops k (map piece_of swept) ≡ true) three two.1) none)
 laid_behind false zero from bytes (s ∷ swept) to left h f none =
-    begun_first from s swept to h.0 (begun_has_byte bytes s.insn s.len h.1) (λ hlt n. laid_behind hlt n (from + s.len) (drop s.len bytes) swept to left h.2) (begun_by (piece_of s) (map piece_of swept)) (begun_as bytes s swept h.1) none
+    begun_first from s swept to h.0 (begun_has_byte bytes s.insn s.len h.1)
+    (λ hlt n. laid_behind hlt n (from + s.len) (drop s.len bytes) swept to left h.2) (begun_by (piece_of s) (map piece_of swept))
+    (begun_as bytes s swept h.1) none
 
 -- How the sites of a whole text lie.
 pub record Laid (at : ℕ) (swept : List Swept) (sites : List Site) (to : ℕ) : Type 0 where
@@ -421,7 +469,8 @@ pub record Laid (at : ℕ) (swept : List Swept) (sites : List Site) (to : ℕ) :
   pub firsts : (site : Site) → Contains sites site → (s : Swept) × Contains swept s × BeginsSite site s
   pub each : (s : Swept) → Contains swept s → Lies at sites s
 
-pub laid : (from : ℕ) (bytes : List ℕ) (swept : List Swept) (to : ℕ) (left : List ℕ) → SweepsTo from bytes swept to left → (found_behind 0 (map piece_of swept)).lacking ≡ None → Laid from swept (found_behind 0 (map piece_of swept)).sites to
+pub laid : (from : ℕ) (bytes : List ℕ) (swept : List Swept) (to : ℕ) (left : List ℕ) → SweepsTo from bytes swept to left
+    → (found_behind 0 (map piece_of swept)).lacking ≡ None → Laid from swept (found_behind 0 (map piece_of swept)).sites to
 laid from bytes swept to left h none =
     let b = laid_behind false 0 from bytes swept to left h (nops_zero (map piece_of swept)) none in
     let same : from + 0 ≡ from = omega arith in

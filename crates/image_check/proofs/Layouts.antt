@@ -27,7 +27,9 @@ use Rattle.image_check.proofs.Laid.{Laid, Lies, laid, first_in, later_in, first_
 swept_bytes : (from : ℕ) (bytes : List ℕ) (swept : List Swept) (to : ℕ) → SweepsTo from bytes swept to [] → AreBytes bytes
 swept_bytes from bytes [] to h = subst AreBytes (sym h.1) tt
 swept_bytes from bytes (s ∷ swept) to h =
-    subst AreBytes (take-append-drop s.len bytes) (AreBytes-append (take s.len bytes) (drop s.len bytes) h.1.front.by_row.fit (swept_bytes (from + s.len) (drop s.len bytes) swept to h.2))
+    subst AreBytes (take-append-drop s.len bytes)
+    (AreBytes-append (take s.len bytes) (drop s.len bytes) h.1.front.by_row.fit
+    (swept_bytes (from + s.len) (drop s.len bytes) swept to h.2))
 
 pub text_fits : (image : Image) → IsAccepted image → AreBytes image.text
 text_fits image h = swept_bytes 0 image.text h.swept (length image.text) h.sweep
@@ -76,7 +78,8 @@ unmapped : (swept : List Swept) (s : Swept) → Contains swept s → Contains (m
 unmapped [] s c = absurd (none_in s c)
 unmapped (t ∷ swept) s c =
     elim (first_or_later t swept s c) [
-      | inl e ↦ subst (λ (u : Swept). Contains (map (λ (v : Swept). v.at) (t ∷ swept)) u.at) e (first_in t.at (map (λ (v : Swept). v.at) swept))
+      | inl e ↦ subst (λ (u : Swept). Contains (map (λ (v : Swept). v.at) (t ∷ swept)) u.at) e
+          (first_in t.at (map (λ (v : Swept). v.at) swept))
       | inr d ↦ later_in t.at (map (λ (v : Swept). v.at) swept) s.at (unmapped swept s d)
     ]
 
@@ -88,7 +91,8 @@ pub started : (text : List ℕ) (at : ℕ) → is_start text at ≡ true → (s 
 started text at e = mapped (swept_of text) at (subst (λ (ks : List ℕ). Contains ks at) (starts_are text) ((start_exact text at).0 e))
 
 pub starts : (text : List ℕ) (s : Swept) → Contains (swept_of text) s → is_start text s.at ≡ true
-starts text s c = (start_exact text s.at).1 (subst (λ (ks : List ℕ). Contains ks s.at) (sym (starts_are text)) (unmapped (swept_of text) s c))
+starts text s c =
+    (start_exact text s.at).1 (subst (λ (ks : List ℕ). Contains ks s.at) (sym (starts_are text)) (unmapped (swept_of text) s c))
 
 -- ---- the site of an offset
 
@@ -135,33 +139,42 @@ no_sites : (at : ℕ) → site_at [] at ≡ None
 unfolding site_at
 no_sites at = refl
 
-some_first : (at : ℕ) (s : Site) (sites : List Site) (site : Site) (b : Bool) → lies_in at s ≡ b → cond b (Some s) (site_at sites at) ≡ Some site → ((s ≡ site) × (lies_in at s ≡ true)) ⊎ (site_at sites at ≡ Some site)
+some_first : (at : ℕ) (s : Site) (sites : List Site) (site : Site) (b : Bool) → lies_in at s ≡ b
+    → cond b (Some s) (site_at sites at) ≡ Some site → ((s ≡ site) × (lies_in at s ≡ true)) ⊎ (site_at sites at ≡ Some site)
 some_first at s sites site true is e = let same : s ≡ site = cc in inl (same, is)
 some_first at s sites site false is e = inr e
 
-pub site_listed : (at : ℕ) (sites : List Site) (site : Site) → site_at sites at ≡ Some site → Contains sites site × (site.at ≤ at) × (at < site.at + site.total)
+pub site_listed : (at : ℕ) (sites : List Site) (site : Site) → site_at sites at ≡ Some site → Contains sites site × (site.at ≤ at)
+    × (at < site.at + site.total)
 site_listed at [] site e = absurd (let f = sym (no_sites at) ∙ e in cc)
 site_listed at (s ∷ sites) site e =
     elim (some_first at s sites site (lies_in at s) refl (sym (site_first at s sites) ∙ e)) [
-      | inl here ↦ subst (λ (t : Site). Contains (s ∷ sites) t × (t.at ≤ at) × (at < t.at + t.total)) here.0 (let l = lies_so at s here.1 in (first_in s sites, l.0, l.1))
+      | inl here ↦ subst (λ (t : Site). Contains (s ∷ sites) t × (t.at ≤ at) × (at < t.at + t.total)) here.0 (let l = lies_so at s here.1 in
+          (first_in s sites, l.0, l.1))
       | inr later ↦ let l = site_listed at sites site later in (later_in s sites site l.0, l.1, l.2)
     ]
 
-pub listed_site : (from at : ℕ) (sites : List Site) (to : ℕ) → AreApart from sites to → (site : Site) → Contains sites site → site.at ≤ at → at < site.at + site.total → site_at sites at ≡ Some site
+pub listed_site : (from at : ℕ) (sites : List Site) (to : ℕ) → AreApart from sites to → (site : Site) → Contains sites site → site.at ≤ at
+    → at < site.at + site.total → site_at sites at ≡ Some site
 listed_site from at [] to h site c le lt = absurd (none_in site c)
 listed_site from at (s ∷ sites) to h site c le lt =
     elim (first_or_later s sites site c) [
-      | inl e ↦ subst (λ (t : Site). site_at (s ∷ sites) at ≡ Some t) e (site_first at s sites ∙ ap (λ b. cond b (Some s) (site_at sites at)) (lies_is at s (subst (λ (t : Site). t.at ≤ at) (sym e) le) (subst (λ (t : Site). at < t.at + t.total) (sym e) lt)))
+      | inl e ↦ subst (λ (t : Site). site_at (s ∷ sites) at ≡ Some t) e
+          (site_first at s sites ∙ ap (λ b. cond b (Some s) (site_at sites at))
+          (lies_is at s (subst (λ (t : Site). t.at ≤ at) (sym e) le) (subst (λ (t : Site). at < t.at + t.total) (sym e) lt)))
       | inr d ↦
           let above = (apart_bounds (s.at + s.total) sites to h.2 site d).0 in
-          site_first at s sites ∙ ap (λ b. cond b (Some s) (site_at sites at)) (past_is at s (inr (omega (arith, above, le)))) ∙ listed_site (s.at + s.total) at sites to h.2 site d le lt
+          site_first at s sites ∙ ap (λ b. cond b (Some s) (site_at sites at)) (past_is at s (inr (omega (arith, above, le))))
+          ∙ listed_site (s.at + s.total) at sites to h.2 site d le lt
     ]
 
-none_first : (at : ℕ) (s : Site) (sites : List Site) (b : Bool) → lies_in at s ≡ b → cond b (Some s) (site_at sites at) ≡ None → (lies_in at s ≡ false) × (site_at sites at ≡ None)
+none_first : (at : ℕ) (s : Site) (sites : List Site) (b : Bool) → lies_in at s ≡ b → cond b (Some s) (site_at sites at) ≡ None
+    → (lies_in at s ≡ false) × (site_at sites at ≡ None)
 none_first at s sites true is e = absurd cc
 none_first at s sites false is e = (is, e)
 
-pub none_around : (at : ℕ) (sites : List Site) → site_at sites at ≡ None → (site : Site) → Contains sites site → (at < site.at) ⊎ (site.at + site.total ≤ at)
+pub none_around : (at : ℕ) (sites : List Site) → site_at sites at ≡ None → (site : Site) → Contains sites site → (at < site.at)
+    ⊎ (site.at + site.total ≤ at)
 none_around at [] e site c = absurd (none_in site c)
 none_around at (s ∷ sites) e site c =
     let f = none_first at s sites (lies_in at s) refl (sym (site_first at s sites) ∙ e) in
@@ -170,7 +183,9 @@ none_around at (s ∷ sites) e site c =
       | inr d ↦ none_around at sites f.1 site d
     ]
 
-pub around_none : (at : ℕ) (sites : List Site) → ((site : Site) → Contains sites site → (at < site.at) ⊎ (site.at + site.total ≤ at)) → site_at sites at ≡ None
+pub around_none : (at : ℕ) (sites : List Site) → ((site : Site) → Contains sites site → (at < site.at) ⊎ (site.at + site.total ≤ at))
+    → site_at sites at ≡ None
 around_none at [] h = no_sites at
 around_none at (s ∷ sites) h =
-    site_first at s sites ∙ ap (λ b. cond b (Some s) (site_at sites at)) (past_is at s (h s (first_in s sites))) ∙ around_none at sites (λ site c. h site (later_in s sites site c))
+    site_first at s sites ∙ ap (λ b. cond b (Some s) (site_at sites at)) (past_is at s (h s (first_in s sites)))
+    ∙ around_none at sites (λ site c. h site (later_in s sites site c))

@@ -24,7 +24,8 @@ pub no_more : (text : List ℕ) (at : ℕ) → length text ≤ at → piece_ther
 no_more text at le = ap (λ bytes. there_as (swept_at at (decoded bytes))) (drop_all at text le) ∙ nothing at (decoded []) refl
 
 -- one more instruction at the end
-pub between_more : (text : List ℕ) (from : ℕ) (ps : List Piece) (at : ℕ) (p : Piece) → AreBetween text from ps at → piece_there text at ≡ Some p → AreBetween text from (ps ++ p ∷ []) (at + p.len)
+pub between_more : (text : List ℕ) (from : ℕ) (ps : List Piece) (at : ℕ) (p : Piece) → AreBetween text from ps at
+    → piece_there text at ≡ Some p → AreBetween text from (ps ++ p ∷ []) (at + p.len)
 between_more text from [] at p e there = (ap (piece_there text) e ∙ there, ap (λ k. k + p.len) e)
 between_more text from (q ∷ ps) at p b there = (b.0, between_more text (from + q.len) ps at p b.1 there)
 
@@ -34,7 +35,8 @@ pub record Next (text : List ℕ) (at : ℕ) (rest : List Piece) (p : Piece) : T
   pub is : rest ≡ p ∷ more
   pub left : AreLeft text (at + p.len) more
 
-pub next_is : (text : List ℕ) (at : ℕ) (rest : List Piece) (p : Piece) → AreLeft text at rest → piece_there text at ≡ Some p → Next text at rest p
+pub next_is : (text : List ℕ) (at : ℕ) (rest : List Piece) (p : Piece) → AreLeft text at rest → piece_there text at ≡ Some p
+    → Next text at rest p
 next_is text at [] p e there =
     let none = no_more text at (omega (arith, e)) in
     absurd cc

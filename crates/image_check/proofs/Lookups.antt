@@ -16,10 +16,12 @@ use Rattle.image_check.proofs.Laid.{apart_bounds}
 use Rattle.image_check.proofs.Layouts.{start_exact, listed_site, around_none}
 
 -- of two sites the first ends before the second
-ordered : (from : ℕ) (sites : List Site) (to : ℕ) → AreApart from sites to → (i j : ℕ) (d : Site) → i < j → j < length sites → (get_or sites i d).at + (get_or sites i d).total ≤ (get_or sites j d).at
+ordered : (from : ℕ) (sites : List Site) (to : ℕ) → AreApart from sites to → (i j : ℕ) (d : Site) → i < j → j < length sites
+    → (get_or sites i d).at + (get_or sites i d).total ≤ (get_or sites j d).at
 ordered from [] to h i j d lt in_it = absurd (omega arith)
 ordered from (s ∷ sites) to h i zero d lt in_it = absurd (omega arith)
-ordered from (s ∷ sites) to h zero (suc j) d lt in_it = (apart_bounds (s.at + s.total) sites to h.2 (get_or sites j d) (Contains-get_or sites j d (omega arith))).0
+ordered from (s ∷ sites) to h zero (suc j) d lt in_it =
+    (apart_bounds (s.at + s.total) sites to h.2 (get_or sites j d) (Contains-get_or sites j d (omega arith))).0
 ordered from (s ∷ sites) to h (suc i) (suc j) d lt in_it = ordered (s.at + s.total) sites to h.2 i j d (omega arith) (omega arith)
 
 -- Sites before one place end before the offset, and those from another on begin after it.
@@ -31,7 +33,8 @@ pub record IsSought (sites : List Site) (at low high : ℕ) : Type 0 where
 pub sought_first : (sites : List Site) (at : ℕ) → IsSought sites at 0 (length sites)
 sought_first sites at = record { below = λ k d lt. absurd (omega arith); above = λ k d le lt. absurd (omega arith); within = omega arith }
 
-module _ (sites : List Site) (to at low high middle : ℕ) (h : AreApart 0 sites to) (sought : IsSought sites at low high) (lt : middle < high) where
+module _ (sites : List Site) (to at low high middle : ℕ) (h : AreApart 0 sites to) (sought : IsSought sites at low high)
+    (lt : middle < high) where
   in_list : middle < length sites
   in_list = let within = sought.within in omega (arith, within)
 
@@ -45,7 +48,8 @@ module _ (sites : List Site) (to at low high middle : ℕ) (h : AreApart 0 sites
           omega (arith, one, before, there)
       | inr not ↦
           let same : middle ≡ k = omega (arith, le, not) in
-          let there : s.at ≡ (get_or sites k d).at = ap (λ (t : Site). t.at) (e ∙ get_or_default sites middle s d in_list ∙ ap (λ j. get_or sites j d) same) in
+          let there : s.at ≡ (get_or sites k d).at =
+          ap (λ (t : Site). t.at) (e ∙ get_or_default sites middle s d in_list ∙ ap (λ j. get_or sites j d) same) in
           omega (arith, before, there)
     ];
     within = omega (arith, in_list);

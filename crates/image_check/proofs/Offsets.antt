@@ -6,7 +6,8 @@ use Rattle.image_check.specs.declared.piece.Piece.{Piece}
 use Rattle.image_check.specs.Sweep.{Swept, sweep, swept_or_none, starts_of}
 use Rattle.image_check.specs.Pieces.{piece_of, pieces_of, pieces_in, is_piece_start}
 
-pub swept_pieces : (text : List ℕ) (r : Result (List Swept) ℕ) (ps : List Piece) → pieces_of text r ≡ Ok ps → (swept : List Swept) × (r ≡ Ok swept) × (map piece_of swept ≡ ps)
+pub swept_pieces : (text : List ℕ) (r : Result (List Swept) ℕ) (ps : List Piece) → pieces_of text r ≡ Ok ps → (swept : List Swept)
+    × (r ≡ Ok swept) × (map piece_of swept ≡ ps)
 swept_pieces text (Ok swept) ps e = (swept, refl, cc)
 swept_pieces text (Err at) ps e = absurd cc
 
@@ -19,7 +20,8 @@ unfolding starts_of
 starts_are text swept e = ap (λ (r : Result (List Swept) ℕ). map (λ (s : Swept). s.at) (swept_or_none r)) e
 
 -- the instructions of a text whose pieces are there
-pub swept_in : (text : List ℕ) (ps : List Piece) → pieces_in text ≡ Ok ps → (swept : List Swept) × (sweep text ≡ Ok swept) × (map piece_of swept ≡ ps)
+pub swept_in : (text : List ℕ) (ps : List Piece) → pieces_in text ≡ Ok ps → (swept : List Swept) × (sweep text ≡ Ok swept)
+    × (map piece_of swept ≡ ps)
 unfolding pieces_in
 swept_in text ps e = swept_pieces text (sweep text) ps e
 

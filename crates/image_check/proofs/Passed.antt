@@ -20,7 +20,8 @@ use Rattle.image_check.specs.Conditions.{text_place, init_place, text_size, init
 use Rattle.image_check.specs.Checking.{as_sites, placed, annotated, entered, image_with, image_from}
 use Rattle.image_check.specs.Accepts.{IsWithin}
 
-pub bind_ok : (A B : Type 0) (r : Result A Refusal) (f : A → Result B Refusal) (y : B) → (r >>= f) ≡ Ok y → (x : A) × (r ≡ Ok x) × (f x ≡ Ok y)
+pub bind_ok : (A B : Type 0) (r : Result A Refusal) (f : A → Result B Refusal) (y : B) → (r >>= f) ≡ Ok y → (x : A)
+    × (r ≡ Ok x) × (f x ≡ Ok y)
 bind_ok A B (Ok x) f y h = (x, refl, h)
 bind_ok A B (Err d) f y h = absurd cc
 
@@ -66,16 +67,21 @@ is_placed parts x e =
       entry_in = no_place EntryPlace _ x d.2;
     }
 
-is_annotated : (parts : ImageParts) (ps : List Piece) (sites : List Site) → annotated parts ps ≡ Ok sites → (text_end parts.text ps ≡ None) × (listed parts.sites ≡ Ok sites) × (site_wrong sites ps ≡ None)
+is_annotated : (parts : ImageParts) (ps : List Piece) (sites : List Site) → annotated parts ps ≡ Ok sites → (text_end parts.text ps ≡ None)
+    × (listed parts.sites ≡ Ok sites) × (site_wrong sites ps ≡ None)
 unfolding annotated
 is_annotated parts ps sites e =
     let a = bind_ok (Unit {0}) (List Site) (test TextEnd (text_end parts.text ps)) _ sites e in
     let b = bind_ok (List Site) (List Site) (as_sites (listed parts.sites)) _ sites a.2 in
     let c = bind_ok (Unit {0}) (List Site) (test SiteWrong (site_wrong b.0 ps)) _ sites b.2 in
-    let same : b.0 ≡ sites = cc c.2 in
-    (no_place TextEnd _ a.0 a.1, subst (λ (ss : List Site). listed parts.sites ≡ Ok ss) same (sites_read _ b.0 b.1), subst (λ (ss : List Site). site_wrong ss ps ≡ None) same (no_place SiteWrong _ c.0 c.1))
+    let same : b.0 ≡ sites = cc c.2 in (
+      no_place TextEnd _ a.0 a.1,
+      subst (λ (ss : List Site). listed parts.sites ≡ Ok ss) same (sites_read _ b.0 b.1),
+      subst (λ (ss : List Site). site_wrong ss ps ≡ None) same (no_place SiteWrong _ c.0 c.1),
+    )
 
-is_entered : (parts : ImageParts) (ps : List Piece) (sites : List Site) (x : Unit {0}) → entered parts ps sites ≡ Ok x → (wrong_target (is_entrance ps sites) ps ≡ None) × (entry_start parts ps sites ≡ None)
+is_entered : (parts : ImageParts) (ps : List Piece) (sites : List Site) (x : Unit {0}) → entered parts ps sites ≡ Ok x
+    → (wrong_target (is_entrance ps sites) ps ≡ None) × (entry_start parts ps sites ≡ None)
 unfolding entered
 is_entered parts ps sites x e =
     let a = bind_ok (Unit {0}) (Unit {0}) (test Target (wrong_target (is_entrance ps sites) ps)) _ x e in
@@ -117,7 +123,8 @@ within_parts parts sites p =
     }
 
 -- what the tests of places and sizes leave
-pub placed_within : (parts : ImageParts) (r : Result (Unit {0}) CheckFault) → Gives (λ _. tt) r (placed parts) → OnOk r (IsWithin (image_with parts []))
+pub placed_within : (parts : ImageParts) (r : Result (Unit {0}) CheckFault) → Gives (λ _. tt) r (placed parts)
+    → OnOk r (IsWithin (image_with parts []))
 placed_within parts (Ok x) e = within_parts parts [] (is_placed parts tt e)
 placed_within parts (Err d) e = tt
 

@@ -95,20 +95,25 @@ module _ (parts : ImageParts) (at : ℕ) where
 abbrev stopped : ℕ → Result (List Swept) ℕ
 stopped at = Err at
 
-named_so : (text : List ℕ) (r : Result (List Swept) ℕ) (at : ℕ) → refused_stop text r ≡ Some at → (r ≡ Err at) × (is_refused (drop at text) ≡ true)
+named_so : (text : List ℕ) (r : Result (List Swept) ℕ) (at : ℕ) → refused_stop text r ≡ Some at → (r ≡ Err at)
+    × (is_refused (drop at text) ≡ true)
 named_so text (Ok swept) at e = absurd cc
 named_so text (Err k) at e = by (is_refused (drop k text)) refl e where
-  by : (b : Bool) → is_refused (drop k text) ≡ b → cond b (Some k) None ≡ some at → (stopped k ≡ stopped at) × (is_refused (drop at text) ≡ true)
+  by : (b : Bool) → is_refused (drop k text) ≡ b → cond b (Some k) None ≡ some at → (stopped k ≡ stopped at)
+      × (is_refused (drop at text) ≡ true)
   by true is e = let same : k ≡ at = cc in (ap stopped same, ap (λ n. is_refused (drop n text)) (sym same) ∙ is)
   by false is e = absurd cc
 
-so_named : (text : List ℕ) (r : Result (List Swept) ℕ) (at : ℕ) → r ≡ Err at → is_refused (drop at text) ≡ true → refused_stop text r ≡ Some at
+so_named : (text : List ℕ) (r : Result (List Swept) ℕ) (at : ℕ) → r ≡ Err at → is_refused (drop at text) ≡ true
+    → refused_stop text r ≡ Some at
 so_named text r at e is = ap (refused_stop text) e ∙ ap (λ b. cond b (Some at) None) is
 
-other_so : (text : List ℕ) (r : Result (List Swept) ℕ) (at : ℕ) → bad_stop text r ≡ Some at → (r ≡ Err at) × (is_refused (drop at text) ≡ false)
+other_so : (text : List ℕ) (r : Result (List Swept) ℕ) (at : ℕ) → bad_stop text r ≡ Some at → (r ≡ Err at)
+    × (is_refused (drop at text) ≡ false)
 other_so text (Ok swept) at e = absurd cc
 other_so text (Err k) at e = by (is_refused (drop k text)) refl e where
-  by : (b : Bool) → is_refused (drop k text) ≡ b → cond b None (Some k) ≡ some at → (stopped k ≡ stopped at) × (is_refused (drop at text) ≡ false)
+  by : (b : Bool) → is_refused (drop k text) ≡ b → cond b None (Some k) ≡ some at → (stopped k ≡ stopped at)
+      × (is_refused (drop at text) ≡ false)
   by false is e = let same : k ≡ at = cc in (ap stopped same, ap (λ n. is_refused (drop n text)) (sym same) ∙ is)
   by true is e = absurd cc
 
@@ -118,14 +123,19 @@ so_other text r at e is = ap (bad_stop text) e ∙ ap (λ b. cond b None (Some a
 module _ (text : List ℕ) (fit : AreBytes text) (at : ℕ) where
   pub refused_stop_is : (refused_stop text (sweep text) ≡ Some at) ↔ MeetsNamed text at
   refused_stop_is = (
-    (λ e. let h = named_so text (sweep text) at e in let named = begins_refused (drop at text) h.1 in ((stop_exact text fit at).0 h.0, named.0, named.1)),
+    (λ e. let h = named_so text (sweep text) at e in let named = begins_refused (drop at text) h.1 in
+        ((stop_exact text fit at).0 h.0, named.0, named.1)),
     (λ h. so_named text (sweep text) at ((stop_exact text fit at).1 h.0) (named_is_refused (drop at text) h.1 h.2)),
   )
 
   pub bad_stop_is : (bad_stop text (sweep text) ≡ Some at) ↔ MeetsOther text at
   bad_stop_is = (
-    (λ e. let h = other_so text (sweep text) at e in ((stop_exact text fit at).0 h.0, (λ name begins. both_ways (is_refused (drop at text)) h.1 (named_is_refused (drop at text) name begins)))),
-    (λ h. so_other text (sweep text) at ((stop_exact text fit at).1 h.0) (false_from_ne_true (is_refused (drop at text)) (λ is. let named = begins_refused (drop at text) is in h.1 named.0 named.1))),
+    (λ e. let h = other_so text (sweep text) at e in (
+      (stop_exact text fit at).0 h.0,
+      (λ name begins. both_ways (is_refused (drop at text)) h.1 (named_is_refused (drop at text) name begins)),
+    )),
+    (λ h. so_other text (sweep text) at ((stop_exact text fit at).1 h.0)
+        (false_from_ne_true (is_refused (drop at text)) (λ is. let named = begins_refused (drop at text) is in h.1 named.0 named.1))),
   )
 
 -- ---- the end
@@ -139,7 +149,8 @@ all_three x y z = rw (x, y, z) refl
 two_left : (text : List ℕ) (at : ℕ) → at + 2 ≡ length text → drop at text ≡ slice_index text at ∷ slice_index text (at + 1) ∷ []
 two_left text at e =
     next_of text at 0 (omega arith)
-    ∙ ap (front (slice_index text at)) (next_of text (at + 1) 0 (omega arith) ∙ ap (front (slice_index text (at + 1))) (drop_all (at + 1 + 1) text (omega arith)))
+    ∙ ap (front (slice_index text at))
+    (next_of text (at + 1) 0 (omega arith) ∙ ap (front (slice_index text (at + 1))) (drop_all (at + 1 + 1) text (omega arith)))
 
 ends_so : (text : List ℕ) (at : ℕ) → ends_at text at ≡ true → drop at text ≡ 0xEB ∷ 0xFE ∷ []
 ends_so text at e =
@@ -158,7 +169,8 @@ so_ends text at e =
     let second : slice_index text (at + 1) ≡ 0xFE = ap (λ (bs : List ℕ). slice_index bs 1) same in
     all_three (eq-eqb (at + 2) (length text) len) (eq-eqb (slice_index text at) 0xEB first) (eq-eqb (slice_index text (at + 1)) 0xFE second)
 
-swept_so : (r : Result (List Swept) ℕ) (f : List Piece → Option ℕ) (at : ℕ) → of_swept r f ≡ Some at → (swept : List Swept) × (r ≡ Ok swept) × (f (map piece_of swept) ≡ Some at)
+swept_so : (r : Result (List Swept) ℕ) (f : List Piece → Option ℕ) (at : ℕ) → of_swept r f ≡ Some at → (swept : List Swept) × (r ≡ Ok swept)
+    × (f (map piece_of swept) ≡ Some at)
 swept_so (Ok swept) f at e = (swept, refl, e)
 swept_so (Err k) f at e = absurd cc
 
@@ -171,11 +183,13 @@ module _ (text : List ℕ) (fit : AreBytes text) (at : ℕ) where
         swept = s.0;
         sweep = (sweep_exact text fit s.0).0 s.1;
         last = h.1;
-        other = λ is. both_ways (ends_at text (last_at (map piece_of s.0))) (not-true _ h.0) (ap (ends_at text) (sym h.1) ∙ so_ends text at is);
+        other =
+            λ is. both_ways (ends_at text (last_at (map piece_of s.0))) (not-true _ h.0) (ap (ends_at text) (sym h.1) ∙ so_ends text at is);
       }
 
   pub so_text_end : EndsOtherwise text at → of_swept (sweep text) (text_end text) ≡ Some at
   so_text_end h =
       ap (λ (r : Result (List Swept) ℕ). of_swept r (text_end text)) ((sweep_exact text fit h.swept).1 h.sweep)
       ∙ so_bad (not (ends_at text (last_at (map piece_of h.swept)))) (last_at (map piece_of h.swept)) at
-      (ap not (false_from_ne_true (ends_at text (last_at (map piece_of h.swept))) (λ is. h.other (ends_so text at (ap (ends_at text) h.last ∙ is))))) h.last
+      (ap not (false_from_ne_true (ends_at text (last_at (map piece_of h.swept)))
+      (λ is. h.other (ends_so text at (ap (ends_at text) h.last ∙ is))))) h.last

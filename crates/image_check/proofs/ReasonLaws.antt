@@ -33,26 +33,33 @@ form_so : (r : Result (List Site) ℕ) (at : ℕ) → form_stop r ≡ Some at �
 form_so (Ok sites) at e = absurd cc
 form_so (Err k) at e = let same : k ≡ at = cc in ap (λ n. Err n) same
 
-both_so : (r : Result (List Swept) ℕ) (s : Result (List Site) ℕ) (f : List Piece → List Site → Option ℕ) (at : ℕ) → of_both r s f ≡ Some at → (swept : List Swept) × (sites : List Site) × (r ≡ Ok swept) × (s ≡ Ok sites) × (f (map piece_of swept) sites ≡ Some at)
+both_so : (r : Result (List Swept) ℕ) (s : Result (List Site) ℕ) (f : List Piece → List Site → Option ℕ) (at : ℕ) → of_both r s f ≡ Some at
+    → (swept : List Swept) × (sites : List Site) × (r ≡ Ok swept) × (s ≡ Ok sites) × (f (map piece_of swept) sites ≡ Some at)
 both_so (Ok swept) (Ok sites) f at e = (swept, sites, refl, refl, e)
 both_so (Ok swept) (Err k) f at e = absurd cc
 both_so (Err k) s f at e = absurd cc
 
-so_both : (r : Result (List Swept) ℕ) (s : Result (List Site) ℕ) (f : List Piece → List Site → Option ℕ) (at : ℕ) (swept : List Swept) (sites : List Site) → r ≡ Ok swept → s ≡ Ok sites → f (map piece_of swept) sites ≡ Some at → of_both r s f ≡ Some at
+so_both : (r : Result (List Swept) ℕ) (s : Result (List Site) ℕ) (f : List Piece → List Site → Option ℕ) (at : ℕ) (swept : List Swept)
+    (sites : List Site) → r ≡ Ok swept → s ≡ Ok sites → f (map piece_of swept) sites ≡ Some at → of_both r s f ≡ Some at
 so_both r s f at swept sites e d h = rw (e, d) h
 
-module _ (parts : ImageParts) (fit : AreBytes parts.text) (at : ℕ) (f : List Piece → List Site → Option ℕ) (P : List Swept → List Site → Type 0) where
-  both_read_so : ((swept : List Swept) (sites : List Site) → f (map piece_of swept) sites ≡ Some at → P swept sites) → of_both (sweep parts.text) (listed parts.sites) f ≡ Some at → (b : BothRead parts) × P b.swept b.sites
+module _ (parts : ImageParts) (fit : AreBytes parts.text) (at : ℕ) (f : List Piece → List Site → Option ℕ)
+    (P : List Swept → List Site → Type 0) where
+  both_read_so : ((swept : List Swept) (sites : List Site) → f (map piece_of swept) sites ≡ Some at → P swept sites)
+      → of_both (sweep parts.text) (listed parts.sites) f ≡ Some at → (b : BothRead parts) × P b.swept b.sites
   both_read_so h e =
       let b = both_so (sweep parts.text) (listed parts.sites) f at e in
       (record { swept = b.0; sweep = (sweep_exact parts.text fit b.0).0 b.2; sites = b.1; read = b.3 }, h b.0 b.1 b.4)
 
-  so_both_read : ((swept : List Swept) (sites : List Site) → P swept sites → f (map piece_of swept) sites ≡ Some at) → (b : BothRead parts) × P b.swept b.sites → of_both (sweep parts.text) (listed parts.sites) f ≡ Some at
-  so_both_read h b = so_both (sweep parts.text) (listed parts.sites) f at b.0.swept b.0.sites ((sweep_exact parts.text fit b.0.swept).1 b.0.sweep) b.0.read (h b.0.swept b.0.sites b.1)
+  so_both_read : ((swept : List Swept) (sites : List Site) → P swept sites → f (map piece_of swept) sites ≡ Some at) → (b : BothRead parts)
+      × P b.swept b.sites → of_both (sweep parts.text) (listed parts.sites) f ≡ Some at
+  so_both_read h b = so_both (sweep parts.text) (listed parts.sites) f at b.0.swept b.0.sites
+      ((sweep_exact parts.text fit b.0.swept).1 b.0.sweep) b.0.read (h b.0.swept b.0.sites b.1)
 
 -- ---- all causes
 
-pub wrong_is : (parts : ImageParts) → AreBytes parts.text → (cause : CheckCause) (at : ℕ) → (wrong parts cause ≡ Some at) ↔ IsWrong cause parts at
+pub wrong_is : (parts : ImageParts) → AreBytes parts.text → (cause : CheckCause) (at : ℕ)
+    → (wrong parts cause ≡ Some at) ↔ IsWrong cause parts at
 wrong_is parts fit TextPlace at = text_place_is parts at
 wrong_is parts fit InitPlace at = init_place_is parts at
 wrong_is parts fit TextSize at = text_size_is parts at
@@ -64,15 +71,20 @@ wrong_is parts fit TextEnd at = (text_end_so parts.text fit at, so_text_end part
 wrong_is parts fit SitesForm at = (form_so (listed parts.sites) at, λ e. ap form_stop e)
 wrong_is parts fit SiteWrong at =
     let f : List Piece → List Site → Option ℕ = λ ps ss. site_wrong ss ps in
-    let P : List Swept → List Site → Type 0 = λ swept sites. IsLowest (IsWrongAt swept sites) at in
-    (both_read_so parts fit at f P (λ swept sites e. site_wrong_so swept sites at e), so_both_read parts fit at f P (λ swept sites h. so_site_wrong swept sites at h))
+    let P : List Swept → List Site → Type 0 = λ swept sites. IsLowest (IsWrongAt swept sites) at in (
+      both_read_so parts fit at f P (λ swept sites e. site_wrong_so swept sites at e),
+      so_both_read parts fit at f P (λ swept sites h. so_site_wrong swept sites at h),
+    )
 wrong_is parts fit Target at =
     let f : List Piece → List Site → Option ℕ = λ ps ss. wrong_target (is_entrance ps ss) ps in
-    let P : List Swept → List Site → Type 0 = λ swept sites. LeadsAstray swept sites at in
-    (both_read_so parts fit at f P (λ swept sites e. target_so swept sites at e), so_both_read parts fit at f P (λ swept sites h. so_target swept sites at h))
+    let P : List Swept → List Site → Type 0 = λ swept sites. LeadsAstray swept sites at in (
+      both_read_so parts fit at f P (λ swept sites e. target_so swept sites at e),
+      so_both_read parts fit at f P (λ swept sites h. so_target swept sites at h),
+    )
 wrong_is parts fit EntryStart at =
     let P : List Swept → List Site → Type 0 = λ swept sites. (IsEntrance swept sites (entry_at parts) → ⊥) × (at ≡ entry_at parts) in (
-      (λ e. let h = both_read_so parts fit at (entry_start parts) P (λ swept sites is. entry_so parts swept sites at is) e in (h.0, h.1.0, h.1.1)),
+      (λ e. let h = both_read_so parts fit at (entry_start parts) P (λ swept sites is. entry_so parts swept sites at is) e in
+          (h.0, h.1.0, h.1.1)),
       (λ h. so_both_read parts fit at (entry_start parts) P (λ swept sites is. so_entry parts swept sites at is) (h.0, (h.1, h.2))),
     )
 
@@ -95,12 +107,14 @@ module _ (parts : ImageParts) (fit : AreBytes parts.text) (at : ℕ) (cause : Ch
       }
 
   pub so_refused : IsRefused parts at cause → IsFirstOf (wrong parts) causes at cause
-  so_refused h = list_first CheckCause (wrong parts) causes at cause h.index h.there ((wrong_is parts fit cause at).1 h.wrong) (λ j c lt there. not_some (wrong parts c) (λ place is. h.before j c place lt there ((wrong_is parts fit c place).0 is)))
+  so_refused h = list_first CheckCause (wrong parts) causes at cause h.index h.there ((wrong_is parts fit cause at).1 h.wrong)
+      (λ j c lt there. not_some (wrong parts c) (λ place is. h.before j c place lt there ((wrong_is parts fit c place).0 is)))
 
 abbrev no_image : Refusal → Result Image Refusal
 no_image refusal = Err refusal
 
-pub refused_exact : (parts : ImageParts) → AreBytes parts.text → (at : ℕ) (cause : CheckCause) → (image_from parts ≡ no_image (Wrong at cause)) ↔ IsRefused parts at cause
+pub refused_exact : (parts : ImageParts) → AreBytes parts.text → (at : ℕ) (cause : CheckCause)
+    → (image_from parts ≡ no_image (Wrong at cause)) ↔ IsRefused parts at cause
 refused_exact parts fit at cause = (
   (λ e. refused_so parts fit at cause ((first_exact parts at cause).0 e)),
   (λ h. (first_exact parts at cause).1 (so_refused parts fit at cause h)),

@@ -38,6 +38,7 @@ unnamed_is_not bytes h =
       | inr e ↦ e
     ]
 
-pub some_is_refused : (bytes : List ℕ) (answer : Option Refused) → ((name : Refused) → (answer ≡ Some name) ↔ BeginsRefused bytes name) → (answer ≡ None) ↔ ((name : Refused) → BeginsRefused bytes name → ⊥) → is_some answer ≡ is_refused bytes
+pub some_is_refused : (bytes : List ℕ) (answer : Option Refused) → ((name : Refused) → (answer ≡ Some name) ↔ BeginsRefused bytes name)
+    → (answer ≡ None) ↔ ((name : Refused) → BeginsRefused bytes name → ⊥) → is_some answer ≡ is_refused bytes
 some_is_refused bytes (Some name) named none = sym (named_is_refused bytes name ((named name).0 refl))
 some_is_refused bytes None named none = sym (unnamed_is_not bytes (none.0 refl))

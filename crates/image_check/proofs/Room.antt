@@ -68,7 +68,8 @@ all_fit : list_all fits rows ≡ true
 unfolding rows fits is_single no_lead no_address no_immediate
 all_fit = refl
 
-row_fits : (r : Row) → Contains rows r → is_single r.op ≡ true → (no_lead r.form.lead && no_address r.form.addressing && no_immediate r.form.immediate) ≡ true
+row_fits : (r : Row) → Contains rows r → is_single r.op ≡ true
+    → (no_lead r.form.lead && no_address r.form.addressing && no_immediate r.form.immediate) ≡ true
 unfolding fits
 row_fits r c e =
     let fit : fits r ≡ true = ap fits (sym c.2) ∙ AllPass-from_list_all fits rows all_fit c.0 r c.1 in
@@ -104,13 +105,22 @@ op_is r p = refl
 one_byte : (bytes : List ℕ) (insn : Insn) → Spells bytes insn → is_single insn.op ≡ true → length bytes ≡ 1
 one_byte bytes insn s e =
     let named : is_single s.row.op ≡ true = ap is_single (sym (ap (λ (i : Insn). i.op) s.by_row.means ∙ op_is s.row s.parts)) ∙ e in
-    let a = and_parts (no_lead s.row.form.lead && no_address s.row.form.addressing) (no_immediate s.row.form.immediate) (row_fits s.row s.listed named) in
+    let a = and_parts (no_lead s.row.form.lead && no_address s.row.form.addressing) (no_immediate s.row.form.immediate)
+    (row_fits s.row s.listed named) in
     let b = and_parts (no_lead s.row.form.lead) (no_address s.row.form.addressing) a.0 in
     let laid = (in_pieces s.row s.listed s.parts bytes).0 s.by_row.read in
     let x = ap (length {A = ℕ}) (lead_none s.row.form.lead laid.lead laid.lead_byte b.0 laid.lead_is) in
     let y = ap (length {A = ℕ}) (address_none s.row.form.addressing laid.address _ b.1 laid.address_is) in
     let z = ap (length {A = ℕ}) (immediate_none s.row.form.immediate laid.immediate _ a.1 laid.immediate_is) in
-    omega (arith, x, y, z, ap length laid.together, length-append laid.lead (s.parts.code ∷ (laid.address ++ laid.immediate)), length-append laid.address laid.immediate)
+    omega (
+      arith,
+      x,
+      y,
+      z,
+      ap length laid.together,
+      length-append laid.lead (s.parts.code ∷ (laid.address ++ laid.immediate)),
+      length-append laid.address laid.immediate,
+    )
 
 pub begun_one : (bytes : List ℕ) (insn : Insn) (n : ℕ) → Begins bytes insn n → is_single insn.op ≡ true → n ≡ 1
 begun_one bytes insn n h e =
@@ -156,7 +166,8 @@ pub goes_up : (from : ℕ) (bytes : List ℕ) (swept : List Swept) (to : ℕ) (l
 goes_up from bytes [] to left h = let e = h.0 in omega (arith, e)
 goes_up from bytes (s ∷ swept) to left h = let later = goes_up (from + s.len) (drop s.len bytes) swept to left h.2 in omega (arith, later)
 
-nops_room : (n from : ℕ) (bytes : List ℕ) (swept : List Swept) (to : ℕ) (left : List ℕ) → SweepsTo from bytes swept to left → has_nops n (map piece_of swept) ≡ true → from + n ≤ to
+nops_room : (n from : ℕ) (bytes : List ℕ) (swept : List Swept) (to : ℕ) (left : List ℕ) → SweepsTo from bytes swept to left
+    → has_nops n (map piece_of swept) ≡ true → from + n ≤ to
 unfolding has_nops
 nops_room zero from bytes swept to left h e = let up = goes_up from bytes swept to left h in omega (arith, up)
 nops_room (suc n) from bytes [] to left h e = absurd cc
@@ -166,7 +177,8 @@ nops_room (suc n) from bytes (s ∷ swept) to left h e =
     let later = nops_room n (from + s.len) (drop s.len bytes) swept to left h.2 nop.1 in
     omega (arith, one, later)
 
-hlt_room : (from : ℕ) (bytes : List ℕ) (swept : List Swept) (to : ℕ) (left : List ℕ) → SweepsTo from bytes swept to left → has_hlt (map piece_of swept) ≡ true → from + 4 ≤ to
+hlt_room : (from : ℕ) (bytes : List ℕ) (swept : List Swept) (to : ℕ) (left : List ℕ) → SweepsTo from bytes swept to left
+    → has_hlt (map piece_of swept) ≡ true → from + 4 ≤ to
 hlt_room from bytes [] to left h e = absurd cc
 hlt_room from bytes (s ∷ swept) to left h e =
     let hlt = and_parts (is_hlt (piece_of s).role) (has_nops 3 (map piece_of swept)) e in
@@ -179,7 +191,8 @@ Fit to here.Nothing = Unit {0}
 Fit to here.Lacks = Unit {0}
 Fit to (here.Makes s) = (5 ≤ s.total) × (s.at + s.total ≤ to)
 
-module _ (from : ℕ) (bytes : List ℕ) (s : Swept) (swept : List Swept) (to : ℕ) (left : List ℕ) (h : SweepsTo from bytes (s ∷ swept) to left) where
+module _ (from : ℕ) (bytes : List ℕ) (s : Swept) (swept : List Swept) (to : ℕ) (left : List ℕ)
+    (h : SweepsTo from bytes (s ∷ swept) to left) where
   pair_fits : is_sti (piece_of s).role ≡ true → has_hlt (map piece_of swept) ≡ true → Fit to (here.Makes (pair (piece_of s)))
   pair_fits sti hlt =
       let one = begun_one bytes s.insn s.len h.1 (sti_piece s sti) in
@@ -209,24 +222,30 @@ module _ (from : ℕ) (bytes : List ℕ) (s : Swept) (swept : List Swept) (to : 
       elim (cases_Bool (is_sti (piece_of s).role && has_hlt (map piece_of swept))) [
         | inl e ↦
             let two = and_parts (is_sti (piece_of s).role) (has_hlt (map piece_of swept)) e in
-            subst (λ b. Fit to (cond b (here.Makes (pair (piece_of s))) (by_role (piece_of s) (map piece_of swept) (piece_of s).role))) (sym e) (pair_fits two.0 two.1)
-        | inr e ↦ subst (λ b. Fit to (cond b (here.Makes (pair (piece_of s))) (by_role (piece_of s) (map piece_of swept) (piece_of s).role))) (sym e) (role_fits (piece_of s).role)
+            subst (λ b. Fit to (cond b (here.Makes (pair (piece_of s))) (by_role (piece_of s) (map piece_of swept) (piece_of s).role)))
+            (sym e) (pair_fits two.0 two.1)
+        | inr e ↦ subst (λ b. Fit to
+            (cond b (here.Makes (pair (piece_of s))) (by_role (piece_of s) (map piece_of swept) (piece_of s).role))) (sym e)
+            (role_fits (piece_of s).role)
       ]
 
-found_fits : (to : ℕ) (p : Piece) (behind : ℕ → Found) (x : Here) → Fit to x → ((n : ℕ) → AreInside to 0 (behind n).sites) → AreInside to 0 (found_by p behind x).sites
+found_fits : (to : ℕ) (p : Piece) (behind : ℕ → Found) (x : Here) → Fit to x → ((n : ℕ) → AreInside to 0 (behind n).sites)
+    → AreInside to 0 (found_by p behind x).sites
 found_fits to p behind here.Nothing fit later = later 0
 found_fits to p behind here.Lacks fit later = tt
 found_fits to p behind (here.Makes s) fit later =
     let room = fit.1 in
     (fit.0, omega (arith, room), later (s.total - p.len))
 
-pub found_inside : (skipped from : ℕ) (bytes : List ℕ) (swept : List Swept) (to : ℕ) (left : List ℕ) → SweepsTo from bytes swept to left → AreInside to 0 (found_behind skipped (map piece_of swept)).sites
+pub found_inside : (skipped from : ℕ) (bytes : List ℕ) (swept : List Swept) (to : ℕ) (left : List ℕ) → SweepsTo from bytes swept to left
+    → AreInside to 0 (found_behind skipped (map piece_of swept)).sites
 unfolding found_behind
 found_inside zero from bytes [] to left h = tt
 found_inside (suc n) from bytes [] to left h = tt
 found_inside (suc n) from bytes (s ∷ swept) to left h = found_inside n (from + s.len) (drop s.len bytes) swept to left h.2
 found_inside zero from bytes (s ∷ swept) to left h =
-    found_fits to (piece_of s) (λ n. found_behind n (map piece_of swept)) (begun_by (piece_of s) (map piece_of swept)) (begun_fits from bytes s swept to left h)
+    found_fits to (piece_of s) (λ n. found_behind n (map piece_of swept)) (begun_by (piece_of s) (map piece_of swept))
+    (begun_fits from bytes s swept to left h)
     (λ n. found_inside n (from + s.len) (drop s.len bytes) swept to left h.2)
 
 -- the sites of an accepted image lie in its text

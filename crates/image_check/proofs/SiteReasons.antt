@@ -32,7 +32,14 @@ differ_so (s ∷ ss) (t ∷ ts) at e =
     elim (cases_Bool (is_same s t)) [
       | inl is ↦
           let more = differ_so ss ts at (sym (ap (λ b. cond b (differ ss ts) (Some (min s.at t.at))) is) ∙ e) in
-          record { both = s ∷ more.both; rest_a = more.rest_a; rest_b = more.rest_b; first = ap (join s) more.first; second = ap (λ (u : Site). u ∷ ts) (sym (same_site s t is)) ∙ ap (join s) more.second; differ = more.differ }
+          record {
+            both = s ∷ more.both;
+            rest_a = more.rest_a;
+            rest_b = more.rest_b;
+            first = ap (join s) more.first;
+            second = ap (λ (u : Site). u ∷ ts) (sym (same_site s t is)) ∙ ap (join s) more.second;
+            differ = more.differ;
+          }
       | inr differs ↦
           let e' : some (min s.at t.at) ≡ Some at = sym (ap (λ b. cond b (differ ss ts) (Some (min s.at t.at))) differs) ∙ e in
           record { both = []; rest_a = s ∷ ss; rest_b = t ∷ ts; first = refl; second = refl; differ = (is_same_not s t differs, cc) }
@@ -68,8 +75,10 @@ EitherIs a b at = (a ≡ Some at) ⊎ (b ≡ Some at)
 
 lower_so : (a b : Option ℕ) (at : ℕ) → (a or_lower b) ≡ Some at → IsLowest (EitherIs a b) at
 lower_so None None at e = absurd cc
-lower_so None (Some b) at e = let same : b ≡ at = cc in (inr e, λ k h. elim h [ inl is ↦ absurd cc | inr is ↦ let other : b ≡ k = cc in omega (arith, same, other) ])
-lower_so (Some a) None at e = let same : a ≡ at = cc in (inl e, λ k h. elim h [ inl is ↦ let other : a ≡ k = cc in omega (arith, same, other) | inr is ↦ absurd cc ])
+lower_so None (Some b) at e = let same : b ≡ at =
+    cc in (inr e, λ k h. elim h [ inl is ↦ absurd cc | inr is ↦ let other : b ≡ k = cc in omega (arith, same, other) ])
+lower_so (Some a) None at e = let same : a ≡ at =
+    cc in (inl e, λ k h. elim h [ inl is ↦ let other : a ≡ k = cc in omega (arith, same, other) | inr is ↦ absurd cc ])
 lower_so (Some a) (Some b) at e =
     elim (lower_of a b) [
       | inl first ↦
@@ -110,11 +119,13 @@ so_lower (Some a) (Some b) at h =
 
 module _ (swept : List Swept) (sites : List Site) (at : ℕ) where
   -- a list of causes by options, and by relations
-  as_options : (k : ℕ) → IsWrongAt swept sites k → EitherIs (found_in (map piece_of swept)).lacking (differ sites (found_in (map piece_of swept)).sites) k
+  as_options : (k : ℕ) → IsWrongAt swept sites k → EitherIs (found_in (map piece_of swept)).lacking
+      (differ sites (found_in (map piece_of swept)).sites) k
   as_options k (inl lacks) = inl lacks
   as_options k (inr differs) = inr (so_differ sites (found_in (map piece_of swept)).sites k differs)
 
-  of_options : (k : ℕ) → EitherIs (found_in (map piece_of swept)).lacking (differ sites (found_in (map piece_of swept)).sites) k → IsWrongAt swept sites k
+  of_options : (k : ℕ) → EitherIs (found_in (map piece_of swept)).lacking (differ sites (found_in (map piece_of swept)).sites) k
+      → IsWrongAt swept sites k
   of_options k (inl lacks) = inl lacks
   of_options k (inr differs) = inr (differ_so sites (found_in (map piece_of swept)).sites k differs)
 
@@ -124,4 +135,5 @@ module _ (swept : List Swept) (sites : List Site) (at : ℕ) where
       (of_options at h.0, λ k is. h.1 k (as_options k is))
 
   pub so_site_wrong : IsLowest (IsWrongAt swept sites) at → site_wrong sites (map piece_of swept) ≡ Some at
-  so_site_wrong h = so_lower (found_in (map piece_of swept)).lacking (differ sites (found_in (map piece_of swept)).sites) at (as_options at h.0, λ k is. h.1 k (of_options k is))
+  so_site_wrong h = so_lower (found_in (map piece_of swept)).lacking (differ sites (found_in (map piece_of swept)).sites) at
+      (as_options at h.0, λ k is. h.1 k (of_options k is))

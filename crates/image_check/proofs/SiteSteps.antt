@@ -45,21 +45,26 @@ counted_first count text at ps left =
     record { rest = ps; left = left; same = ap (λ n. has_nops n ps) k }
 
 module _ (count i : ℕ) (text : List ℕ) (at : ℕ) (ps : List Piece) (now : Counted count i text at ps) where
-  first_is : i < count → (p : Piece) (there : piece_there text at ≡ Some p) → has_nops count ps ≡ (is_nop_role p.role && has_nops (count - (i + 1)) (next_is text at now.rest p now.left there).more)
+  first_is : i < count → (p : Piece) (there : piece_there text at ≡ Some p)
+      → has_nops count ps ≡ (is_nop_role p.role && has_nops (count - (i + 1)) (next_is text at now.rest p now.left there).more)
   first_is lt p there =
       let k : count - i ≡ suc (count - (i + 1)) = omega arith in
       let next = next_is text at now.rest p now.left there in
-      sym now.same ∙ ap (λ n. has_nops n now.rest) k ∙ ap (has_nops (suc (count - (i + 1)))) next.is ∙ nops_first (count - (i + 1)) p next.more
+      sym now.same ∙ ap (λ n. has_nops n now.rest) k ∙ ap (has_nops (suc (count - (i + 1)))) next.is
+      ∙ nops_first (count - (i + 1)) p next.more
 
   pub counted_wrong : i < count → (p : Piece) → piece_there text at ≡ Some p → is_nop_role p.role ≡ false → false ≡ has_nops count ps
-  counted_wrong lt p there e = sym (first_is lt p there ∙ ap (λ b. b && has_nops (count - (i + 1)) (next_is text at now.rest p now.left there).more) e)
+  counted_wrong lt p there e =
+      sym (first_is lt p there ∙ ap (λ b. b && has_nops (count - (i + 1)) (next_is text at now.rest p now.left there).more) e)
 
   pub counted_short : i < count → piece_there text at ≡ None → false ≡ has_nops count ps
   counted_short lt none =
       let k : count - i ≡ suc (count - (i + 1)) = omega arith in
-      sym (sym now.same ∙ ap (λ n. has_nops n now.rest) k ∙ ap (has_nops (suc (count - (i + 1)))) (none_left text at now.rest now.left none) ∙ nops_none (count - (i + 1)))
+      sym (sym now.same ∙ ap (λ n. has_nops n now.rest) k ∙ ap (has_nops (suc (count - (i + 1)))) (none_left text at now.rest now.left none)
+      ∙ nops_none (count - (i + 1)))
 
-  pub counted_on : i < count → (p : Piece) → piece_there text at ≡ Some p → is_nop_role p.role ≡ true → Counted count (i + 1) text (at + p.len) ps
+  pub counted_on : i < count → (p : Piece) → piece_there text at ≡ Some p → is_nop_role p.role ≡ true
+      → Counted count (i + 1) text (at + p.len) ps
   counted_on lt p there e =
       let next = next_is text at now.rest p now.left there in
       record {
@@ -78,12 +83,14 @@ module _ (count i : ℕ) (text : List ℕ) (at : ℕ) (ps : List Piece) (now : C
 pub no_hlt : (text : List ℕ) (at : ℕ) (ps : List Piece) → AreLeft text at ps → piece_there text at ≡ None → false ≡ has_hlt ps
 no_hlt text at ps left none = sym (ap has_hlt (none_left text at ps left none))
 
-pub other_first : (text : List ℕ) (at : ℕ) (ps : List Piece) (p : Piece) → AreLeft text at ps → piece_there text at ≡ Some p → is_hlt p.role ≡ false → false ≡ has_hlt ps
+pub other_first : (text : List ℕ) (at : ℕ) (ps : List Piece) (p : Piece) → AreLeft text at ps → piece_there text at ≡ Some p
+    → is_hlt p.role ≡ false → false ≡ has_hlt ps
 other_first text at ps p left there e =
     let next = next_is text at ps p left there in
     sym (ap has_hlt next.is ∙ ap (λ b. b && has_nops 3 next.more) e)
 
-pub hlt_first : (text : List ℕ) (at : ℕ) (ps : List Piece) (p : Piece) (b : Bool) → AreLeft text at ps → piece_there text at ≡ Some p → is_hlt p.role ≡ true → ((more : List Piece) → AreLeft text (at + p.len) more → b ≡ has_nops 3 more) → b ≡ has_hlt ps
+pub hlt_first : (text : List ℕ) (at : ℕ) (ps : List Piece) (p : Piece) (b : Bool) → AreLeft text at ps → piece_there text at ≡ Some p
+    → is_hlt p.role ≡ true → ((more : List Piece) → AreLeft text (at + p.len) more → b ≡ has_nops 3 more) → b ≡ has_hlt ps
 hlt_first text at ps p b left there e nops =
     let next = next_is text at ps p left there in
     nops next.more next.left ∙ sym (ap has_hlt next.is ∙ ap (λ c. c && has_nops 3 next.more) e)
@@ -133,10 +140,12 @@ module _ (sites : List Site) (skipped : ℕ) (text : List ℕ) (at : ℕ) (now :
     pub now_skipped : 0 < skipped → Now sites (skipped - 1) text (at + p.len)
     now_skipped lt =
         let k : skipped ≡ suc (skipped - 1) = omega arith in
-        let e : found_behind skipped now.rest ≡ found_behind (skipped - 1) next.more = ap (λ n. found_behind n now.rest) k ∙ ap (found_behind (suc (skipped - 1))) next.is ∙ skip_first (skipped - 1) p next.more in
+        let e : found_behind skipped now.rest ≡ found_behind (skipped - 1) next.more =
+        ap (λ n. found_behind n now.rest) k ∙ ap (found_behind (suc (skipped - 1))) next.is ∙ skip_first (skipped - 1) p next.more in
         record { rest = next.more; left = next.left; sites_are = sites_by _ e; lacking_is = lacking_by _ e }
 
-    begins : (h : Here) → skipped ≤ 0 → ((ps : List Piece) → AreLeft text (at + p.len) ps → h ≡ begun_by p ps) → found_behind skipped now.rest ≡ found_by p (λ n. found_behind n next.more) h
+    begins : (h : Here) → skipped ≤ 0 → ((ps : List Piece) → AreLeft text (at + p.len) ps → h ≡ begun_by p ps)
+        → found_behind skipped now.rest ≡ found_by p (λ n. found_behind n next.more) h
     begins h none begun =
         let k : skipped ≡ 0 = omega arith in
         ap (λ n. found_behind n now.rest) k
@@ -144,13 +153,15 @@ module _ (sites : List Site) (skipped : ℕ) (text : List ℕ) (at : ℕ) (now :
         ∙ look_at p next.more
         ∙ ap (found_by p (λ n. found_behind n next.more)) (sym (begun next.more next.left))
 
-    pub now_nothing : skipped ≤ 0 → ((ps : List Piece) → AreLeft text (at + p.len) ps → here.Nothing ≡ begun_by p ps) → Now sites skipped text (at + p.len)
+    pub now_nothing : skipped ≤ 0 → ((ps : List Piece) → AreLeft text (at + p.len) ps → here.Nothing ≡ begun_by p ps)
+        → Now sites skipped text (at + p.len)
     now_nothing none begun =
         let k : 0 ≡ skipped = omega arith in
         let e = begins here.Nothing none begun ∙ ap (λ n. found_behind n next.more) k in
         record { rest = next.more; left = next.left; sites_are = sites_by _ e; lacking_is = lacking_by _ e }
 
-    pub now_makes : (s : Site) → skipped ≤ 0 → ((ps : List Piece) → AreLeft text (at + p.len) ps → here.Makes s ≡ begun_by p ps) → Now (sites ++ s ∷ []) (s.total - p.len) text (at + p.len)
+    pub now_makes : (s : Site) → skipped ≤ 0 → ((ps : List Piece) → AreLeft text (at + p.len) ps → here.Makes s ≡ begun_by p ps)
+        → Now (sites ++ s ∷ []) (s.total - p.len) text (at + p.len)
     now_makes s none begun =
         let e = begins (here.Makes s) none begun in
         record {
@@ -160,7 +171,8 @@ module _ (sites : List Site) (skipped : ℕ) (text : List ℕ) (at : ℕ) (now :
           lacking_is = lacking_by _ e;
         }
 
-    pub now_lacks : skipped ≤ 0 → ((ps : List Piece) → AreLeft text (at + p.len) ps → here.Lacks ≡ begun_by p ps) → (sites ≡ (found_in (all_pieces text)).sites) × (Some p.at ≡ (found_in (all_pieces text)).lacking)
+    pub now_lacks : skipped ≤ 0 → ((ps : List Piece) → AreLeft text (at + p.len) ps → here.Lacks ≡ begun_by p ps)
+        → (sites ≡ (found_in (all_pieces text)).sites) × (Some p.at ≡ (found_in (all_pieces text)).lacking)
     now_lacks none begun =
         let e = begins here.Lacks none begun in
         (sym (append-nil sites) ∙ sites_by _ e, lacking_by _ e)
@@ -171,14 +183,23 @@ differ_first : (s t : Site) (ss ts : List Site) → differ (s ∷ ss) (t ∷ ts)
 unfolding differ
 differ_first s t ss ts = refl
 
-differ_step : (ss ts : List Site) (i : ℕ) (d : Site) → i < length ss → i < length ts → differ (drop i ss) (drop i ts) ≡ cond (is_same (slice_index_or ss i d) (slice_index_or ts i d)) (differ (drop (i + 1) ss) (drop (i + 1) ts)) (Some (min (slice_index_or ss i d).at (slice_index_or ts i d).at))
-differ_step ss ts i d in_ss in_ts = rw (next_of ss i d in_ss, next_of ts i d in_ts) (differ_first (slice_index_or ss i d) (slice_index_or ts i d) (drop (i + 1) ss) (drop (i + 1) ts))
+differ_step : (ss ts : List Site) (i : ℕ) (d : Site) → i < length ss → i < length ts
+    → differ (drop i ss) (drop i ts) ≡ cond (is_same (slice_index_or ss i d) (slice_index_or ts i d))
+    (differ (drop (i + 1) ss) (drop (i + 1) ts)) (Some (min (slice_index_or ss i d).at (slice_index_or ts i d).at))
+differ_step ss ts i d in_ss in_ts = rw (next_of ss i d in_ss, next_of ts i d in_ts)
+    (differ_first (slice_index_or ss i d) (slice_index_or ts i d) (drop (i + 1) ss) (drop (i + 1) ts))
 
-pub differ-wrong : (ss ts : List Site) (i : ℕ) (d : Site) → i < length ss → i < length ts → is_same (slice_index_or ss i d) (slice_index_or ts i d) ≡ false → differ (drop i ss) (drop i ts) ≡ Some (min (slice_index_or ss i d).at (slice_index_or ts i d).at)
-differ-wrong ss ts i d in_ss in_ts e = differ_step ss ts i d in_ss in_ts ∙ ap (λ b. cond b (differ (drop (i + 1) ss) (drop (i + 1) ts)) (Some (min (slice_index_or ss i d).at (slice_index_or ts i d).at))) e
+pub differ-wrong : (ss ts : List Site) (i : ℕ) (d : Site) → i < length ss → i < length ts
+    → is_same (slice_index_or ss i d) (slice_index_or ts i d) ≡ false
+    → differ (drop i ss) (drop i ts) ≡ Some (min (slice_index_or ss i d).at (slice_index_or ts i d).at)
+differ-wrong ss ts i d in_ss in_ts e = differ_step ss ts i d in_ss in_ts
+    ∙ ap (λ b. cond b (differ (drop (i + 1) ss) (drop (i + 1) ts)) (Some (min (slice_index_or ss i d).at (slice_index_or ts i d).at))) e
 
-pub differ-right_so_far : (ss ts : List Site) (i : ℕ) (d : Site) → i < length ss → i < length ts → is_same (slice_index_or ss i d) (slice_index_or ts i d) ≡ true → differ (drop i ss) (drop i ts) ≡ differ (drop (i + 1) ss) (drop (i + 1) ts)
-differ-right_so_far ss ts i d in_ss in_ts e = differ_step ss ts i d in_ss in_ts ∙ ap (λ b. cond b (differ (drop (i + 1) ss) (drop (i + 1) ts)) (Some (min (slice_index_or ss i d).at (slice_index_or ts i d).at))) e
+pub differ-right_so_far : (ss ts : List Site) (i : ℕ) (d : Site) → i < length ss → i < length ts
+    → is_same (slice_index_or ss i d) (slice_index_or ts i d) ≡ true
+    → differ (drop i ss) (drop i ts) ≡ differ (drop (i + 1) ss) (drop (i + 1) ts)
+differ-right_so_far ss ts i d in_ss in_ts e = differ_step ss ts i d in_ss in_ts
+    ∙ ap (λ b. cond b (differ (drop (i + 1) ss) (drop (i + 1) ts)) (Some (min (slice_index_or ss i d).at (slice_index_or ts i d).at))) e
 
 differ_left : (s : Site) (ss : List Site) → differ (s ∷ ss) [] ≡ Some s.at
 unfolding differ
@@ -192,10 +213,12 @@ differ_none : differ [] [] ≡ None
 unfolding differ
 differ_none = refl
 
-pub differ-left : (ss ts : List Site) (i : ℕ) (d : Site) → i < length ss → length ts ≤ i → differ (drop i ss) (drop i ts) ≡ Some (slice_index_or ss i d).at
+pub differ-left : (ss ts : List Site) (i : ℕ) (d : Site) → i < length ss → length ts ≤ i
+    → differ (drop i ss) (drop i ts) ≡ Some (slice_index_or ss i d).at
 differ-left ss ts i d in_ss le = rw (next_of ss i d in_ss, drop_all i ts le) (differ_left (slice_index_or ss i d) (drop (i + 1) ss))
 
-pub differ-right : (ss ts : List Site) (i : ℕ) (d : Site) → length ss ≤ i → i < length ts → differ (drop i ss) (drop i ts) ≡ Some (slice_index_or ts i d).at
+pub differ-right : (ss ts : List Site) (i : ℕ) (d : Site) → length ss ≤ i → i < length ts
+    → differ (drop i ss) (drop i ts) ≡ Some (slice_index_or ts i d).at
 differ-right ss ts i d le in_ts = rw (drop_all i ss le, next_of ts i d in_ts) (differ_right (slice_index_or ts i d) (drop (i + 1) ts))
 
 pub differ-end : (ss ts : List Site) (i : ℕ) → length ss ≤ i → length ts ≤ i → differ (drop i ss) (drop i ts) ≡ None

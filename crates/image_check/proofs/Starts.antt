@@ -17,10 +17,13 @@ no_marks n i = grind (arith, common_steps)
 one_start : (p : Piece) (i : ℕ) → is_piece_start (p ∷ []) i ≡ (i == p.at)
 one_start p i = grind (arith, common_steps)
 
-marked_now : (starts : List Bool) (at i : ℕ) → at < length starts → slice_index_or (slice_set starts at true) i false ≡ (slice_index_or starts i false || (i == at))
+marked_now : (starts : List Bool) (at i : ℕ) → at < length starts → slice_index_or (slice_set starts at true) i false
+    ≡ (slice_index_or starts i false || (i == at))
 marked_now starts at i lt = grind (arith, common_steps, nat_tests)
 
-pub mark_more : (starts : List Bool) (ps : List Piece) (p : Piece) (at i : ℕ) → p.at ≡ at → at < length starts → slice_index_or starts i false ≡ is_piece_start ps i → slice_index_or (slice_set starts at true) i false ≡ is_piece_start (ps ++ p ∷ []) i
+pub mark_more : (starts : List Bool) (ps : List Piece) (p : Piece) (at i : ℕ) → p.at ≡ at → at < length starts
+    → slice_index_or starts i false ≡ is_piece_start ps i → slice_index_or (slice_set starts at true) i false
+    ≡ is_piece_start (ps ++ p ∷ []) i
 mark_more starts ps p at i e lt so_far =
     marked_now starts at i lt
     ∙ ap (λ b. b || (i == at)) so_far
@@ -43,7 +46,8 @@ any_contains starts at h =
 pub start_flag : (starts : List ℕ) (at : ℕ) (b : Bool) → b ≡ is_among at starts → IsTrue b ↔ Contains starts at
 start_flag starts at b e = ((λ t. any_contains starts at (sym e ∙ t)), (λ h. e ∙ contains_any starts at h))
 
-pub read_flag : (flags : List Bool) (at : ℕ) (b : Bool) → at < length flags → b ≡ slice_index_or flags at b → b ≡ slice_index_or flags at false
+pub read_flag : (flags : List Bool) (at : ℕ) (b : Bool) → at < length flags → b ≡ slice_index_or flags at b
+    → b ≡ slice_index_or flags at false
 read_flag flags at b lt e = get_or_read flags at b lt e false
 
 pub past_flag : (flags : List Bool) (at : ℕ) → length flags ≤ at → nat_lt at (length flags) ≡ slice_index_or flags at false

@@ -24,7 +24,8 @@ bind_ok : (A B : Type 0) (r : Result A ℕ) (f : A → Result B ℕ) (y : B) →
 bind_ok A B (Ok x) f y h = (x, refl, h)
 bind_ok A B (Err d) f y h = absurd cc
 
-bind_err : (A B : Type 0) (r : Result A ℕ) (f : A → Result B ℕ) (d : ℕ) → (r >>= f) ≡ Err d → (r ≡ Err d) ⊎ ((x : A) × (r ≡ Ok x) × (f x ≡ Err d))
+bind_err : (A B : Type 0) (r : Result A ℕ) (f : A → Result B ℕ) (d : ℕ) → (r >>= f) ≡ Err d → (r ≡ Err d)
+    ⊎ ((x : A) × (r ≡ Ok x) × (f x ≡ Err d))
 bind_err A B (Ok x) f d h = inr (x, refl, h)
 bind_err A B (Err c) f d h = inl cc
 
@@ -35,7 +36,8 @@ swept_ok at (answer.Insn insn n) s e =
 swept_ok at answer.Short s e = absurd cc
 swept_ok at answer.Outside s e = absurd cc
 
-none_swept : (at to : ℕ) (d : Decoded) (bytes : List ℕ) → Answers d bytes → swept_at at d ≡ Err to → (at ≡ to) × ((insn : Insn) (n : ℕ) → Begins bytes insn n → ⊥)
+none_swept : (at to : ℕ) (d : Decoded) (bytes : List ℕ) → Answers d bytes → swept_at at d ≡ Err to → (at ≡ to)
+    × ((insn : Insn) (n : ℕ) → Begins bytes insn n → ⊥)
 none_swept at to (answer.Insn insn n) bytes h e = absurd cc
 none_swept at to answer.Short bytes h e = (cc, λ insn n b. begins_not_cut bytes insn n b h)
 none_swept at to answer.Outside bytes h e = (cc, h.not_begun)
@@ -54,7 +56,8 @@ ended at swept e =
     let none : [] ≡ swept = cc in
     subst (λ (ss : List Swept). SweepsTo at [] ss (at + 0) []) none (omega arith, refl)
 
-pub from_ok : (n at : ℕ) (bytes : List ℕ) (swept : List Swept) → AreBytes bytes → length bytes ≤ n → sweep_from n at bytes ≡ Ok swept → SweepsTo at bytes swept (at + length bytes) []
+pub from_ok : (n at : ℕ) (bytes : List ℕ) (swept : List Swept) → AreBytes bytes → length bytes ≤ n → sweep_from n at bytes ≡ Ok swept
+    → SweepsTo at bytes swept (at + length bytes) []
 unfolding sweep_from
 from_ok zero at [] swept fit few e = ended at swept e
 from_ok zero at (b ∷ bytes) swept fit few e = absurd (omega arith)
@@ -85,7 +88,8 @@ pub record StopsFrom (at : ℕ) (bytes : List ℕ) (to : ℕ) : Type 0 where
   pub some : rest ≢ []
   pub none : (insn : Insn) (n : ℕ) → Begins rest insn n → ⊥
 
-one_first : (at len to : ℕ) (bytes : List ℕ) (s : Swept) → s.at ≡ at → Begins bytes s.insn s.len → StopsFrom (at + s.len) (drop s.len bytes) to → StopsFrom at bytes to
+one_first : (at len to : ℕ) (bytes : List ℕ) (s : Swept) → s.at ≡ at → Begins bytes s.insn s.len
+    → StopsFrom (at + s.len) (drop s.len bytes) to → StopsFrom at bytes to
 one_first at len to bytes s e here stops = record {
   swept = s ∷ stops.swept;
   rest = stops.rest;
@@ -111,7 +115,9 @@ from_err (suc n) at to (b ∷ bytes) fit few e =
           let some = begun_has_byte (b ∷ bytes) s.insn s.len here in
           let within = here.within in
           elim (bind_err (List Swept) (List Swept) (sweep_from n (at + s.len) (drop s.len (b ∷ bytes))) _ to goes.2) [
-            | inl later ↦ one_first at s.len to (b ∷ bytes) s is.0 here (from_err n (at + s.len) to (drop s.len (b ∷ bytes)) (AreBytes-drop s.len (b ∷ bytes) fit) (omega (arith, length-drop s.len (b ∷ bytes))) later)
+            | inl later ↦ one_first at s.len to (b ∷ bytes) s is.0 here
+                (from_err n (at + s.len) to (drop s.len (b ∷ bytes)) (AreBytes-drop s.len (b ∷ bytes) fit)
+                (omega (arith, length-drop s.len (b ∷ bytes))) later)
             | inr done ↦ absurd (cc done.2)
           ]
     ]
@@ -134,12 +140,14 @@ pub record Leads (n at : ℕ) (bytes : List ℕ) (swept : List Swept) (to : ℕ)
   pub fits : AreBytes rest
   pub is : sweep_from n at bytes ≡ with_front swept (sweep_from fuel to rest)
 
-pub step_is : (n at : ℕ) (bytes : List ℕ) (s : Swept) → 0 < length bytes → swept_at at (decoded bytes) ≡ Ok s → sweep_from (suc n) at bytes ≡ (sweep_from n (at + s.len) (drop s.len bytes) >>= λ swept. Ok (s ∷ swept))
+pub step_is : (n at : ℕ) (bytes : List ℕ) (s : Swept) → 0 < length bytes → swept_at at (decoded bytes) ≡ Ok s
+    → sweep_from (suc n) at bytes ≡ (sweep_from n (at + s.len) (drop s.len bytes) >>= λ swept. Ok (s ∷ swept))
 unfolding sweep_from
 step_is n at [] s some e = absurd (omega arith)
 step_is n at (b ∷ bytes) s some e = rw e refl
 
-leads : (n at : ℕ) (bytes : List ℕ) (swept : List Swept) (to : ℕ) (rest : List ℕ) → AreBytes bytes → length bytes ≤ n → SweepsTo at bytes swept to rest → Leads n at bytes swept to rest
+leads : (n at : ℕ) (bytes : List ℕ) (swept : List Swept) (to : ℕ) (rest : List ℕ) → AreBytes bytes → length bytes ≤ n
+    → SweepsTo at bytes swept to rest → Leads n at bytes swept to rest
 unfolding with_front
 leads n at bytes [] to rest fit few h = record {
   fuel = n;
@@ -153,7 +161,8 @@ leads n at bytes (s ∷ swept) to rest fit few h =
     let m = n - 1 in
     let k : n ≡ suc m = omega arith in
     let e : swept_at at (decoded bytes) ≡ Ok s = ap (swept_at at) (answer_is bytes s.insn s.len fit h.1) ∙ swept_is at s h.0 in
-    let later = leads m (at + s.len) (drop s.len bytes) swept to rest (AreBytes-drop s.len bytes fit) (omega (arith, length-drop s.len bytes)) h.2 in
+    let later = leads m (at + s.len) (drop s.len bytes) swept to rest (AreBytes-drop s.len bytes fit)
+    (omega (arith, length-drop s.len bytes)) h.2 in
     record {
       fuel = later.fuel;
       enough = later.enough;
@@ -176,12 +185,14 @@ unfolding sweep_from
 ends zero at = refl
 ends (suc n) at = refl
 
-not_swept : (at : ℕ) (d : Decoded) (bytes : List ℕ) → Answers d bytes → ((insn : Insn) (n : ℕ) → Begins bytes insn n → ⊥) → swept_at at d ≡ Err at
+not_swept : (at : ℕ) (d : Decoded) (bytes : List ℕ) → Answers d bytes → ((insn : Insn) (n : ℕ) → Begins bytes insn n → ⊥)
+    → swept_at at d ≡ Err at
 not_swept at (answer.Insn insn n) bytes h none = absurd (none insn n h)
 not_swept at answer.Short bytes h none = refl
 not_swept at answer.Outside bytes h none = refl
 
-stops : (n at : ℕ) (bytes : List ℕ) → AreBytes bytes → length bytes ≤ n → bytes ≢ [] → ((insn : Insn) (k : ℕ) → Begins bytes insn k → ⊥) → sweep_from n at bytes ≡ Err at
+stops : (n at : ℕ) (bytes : List ℕ) → AreBytes bytes → length bytes ≤ n → bytes ≢ [] → ((insn : Insn) (k : ℕ) → Begins bytes insn k → ⊥)
+    → sweep_from n at bytes ≡ Err at
 unfolding sweep_from
 stops n at [] fit few some none = absurd (some refl)
 stops zero at (b ∷ bytes) fit few some none = absurd (omega arith)
@@ -193,12 +204,15 @@ pub sweep_exact : (text : List ℕ) → AreBytes text → (swept : List Swept) �
 unfolding sweep
 sweep_exact text fit swept = (
   (λ e. subst (λ to. SweepsTo 0 text swept to []) (omega arith) (from_ok (length text) 0 text swept fit (omega arith) e)),
-  (λ h. let l = leads (length text) 0 text swept (length text) [] fit (omega arith) h in l.is ∙ ap (with_front swept) (ends l.fuel (length text)) ∙ front_ok swept),
+  (λ h. let l = leads (length text) 0 text swept (length text) [] fit (omega arith) h in
+      l.is ∙ ap (with_front swept) (ends l.fuel (length text)) ∙ front_ok swept),
 )
 
 pub stop_exact : (text : List ℕ) → AreBytes text → (at : ℕ) → (sweep text ≡ Err at) ↔ SweepStops text at
 unfolding sweep
 stop_exact text fit at = (
-  (λ e. let s = from_err (length text) 0 at text fit (omega arith) e in record { swept = s.swept; rest = s.rest; reached = s.reached; some = s.some; none = s.none }),
-  (λ h. let l = leads (length text) 0 text h.swept at h.rest fit (omega arith) h.reached in l.is ∙ ap (with_front h.swept) (stops l.fuel at h.rest l.fits l.enough h.some h.none) ∙ front_err h.swept at),
+  (λ e. let s = from_err (length text) 0 at text fit (omega arith) e in
+      record { swept = s.swept; rest = s.rest; reached = s.reached; some = s.some; none = s.none }),
+  (λ h. let l = leads (length text) 0 text h.swept at h.rest fit (omega arith) h.reached in
+      l.is ∙ ap (with_front h.swept) (stops l.fuel at h.rest l.fits l.enough h.some h.none) ∙ front_err h.swept at),
 )

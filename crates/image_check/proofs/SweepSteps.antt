@@ -36,7 +36,8 @@ behind_one : (ps : List Piece) (p : Piece) (r : Result (List Piece) Refusal) →
 behind_one ps p (Ok more) = ap (λ (qs : List Piece). Ok qs) (sym (append_assoc ps (p ∷ []) more))
 behind_one ps p (Err refusal) = refl
 
-one_more : (text : List ℕ) (s : Swept) (r : Result (List Swept) ℕ) → pieces_of text (r >>= λ swept. Ok (s ∷ swept)) ≡ behind (piece_of s ∷ []) (pieces_of text r)
+one_more : (text : List ℕ) (s : Swept) (r : Result (List Swept) ℕ) → pieces_of text (r >>= λ swept. Ok (s ∷ swept)) ≡ behind
+    (piece_of s ∷ []) (pieces_of text r)
 one_more text s (Ok swept) = refl
 one_more text s (Err at) = refl
 
@@ -59,7 +60,8 @@ pub goes_from_none : (text : List ℕ) → Goes text [] 0
 unfolding pieces_in sweep
 goes_from_none text = record { fuel = length text; enough = omega arith; whole = behind_none _ }
 
-pub goes_on : (text : List ℕ) (ps : List Piece) (at : ℕ) (p : Piece) → at < length text → 1 ≤ p.len → piece_there text at ≡ Some p → Goes text ps at → Goes text (ps ++ p ∷ []) (at + p.len)
+pub goes_on : (text : List ℕ) (ps : List Piece) (at : ℕ) (p : Piece) → at < length text → 1 ≤ p.len → piece_there text at ≡ Some p
+    → Goes text ps at → Goes text (ps ++ p ∷ []) (at + p.len)
 goes_on text ps at p lt some e goes =
     let len = length-drop at text in
     let m = goes.fuel - 1 in
@@ -69,7 +71,8 @@ goes_on text ps at p lt some e goes =
     let next : drop is.0.len (drop at text) ≡ drop (at + p.len) text = drop-drop is.0.len at text ∙ ap (λ j. drop (at + j) text) n in
     let one = step_is m at (drop at text) is.0 (omega (arith, len)) is.1 in
     let rest : Result (List Swept) ℕ = sweep_from m (at + is.0.len) (drop is.0.len (drop at text)) in
-    let moved : rest ≡ sweep_from m (at + p.len) (drop (at + p.len) text) = ap (λ j. sweep_from m (at + j) (drop is.0.len (drop at text))) n ∙ ap (sweep_from m (at + p.len)) next in
+    let moved : rest ≡ sweep_from m (at + p.len) (drop (at + p.len) text) =
+    ap (λ j. sweep_from m (at + j) (drop is.0.len (drop at text))) n ∙ ap (sweep_from m (at + p.len)) next in
     record {
       fuel = m;
       enough = (let enough = goes.enough in omega (arith, enough, len, length-drop (at + p.len) text));
@@ -83,7 +86,8 @@ goes_on text ps at p lt some e goes =
           ∙ goes.whole;
     }
 
-pub goes_wrong : (text : List ℕ) (ps : List Piece) (at : ℕ) → at < length text → piece_there text at ≡ None → Goes text ps at → pieces_in text ≡ Err (Wrong at (stop_cause (drop at text)))
+pub goes_wrong : (text : List ℕ) (ps : List Piece) (at : ℕ) → at < length text → piece_there text at ≡ None → Goes text ps at
+    → pieces_in text ≡ Err (Wrong at (stop_cause (drop at text)))
 goes_wrong text ps at lt e goes =
     let len = length-drop at text in
     let m = goes.fuel - 1 in
@@ -129,7 +133,8 @@ last_one ps p =
     let k : length (ps ++ p ∷ []) - 1 ≡ length ps = omega (arith, length-append ps (p ∷ [])) in
     ap (λ i. at_of (slice_get (ps ++ p ∷ []) i)) k ∙ ap at_of (get_last ps p)
 
-pub went_on : (text : List ℕ) (starts : List Bool) (last at : ℕ) (p : Piece) → at < length text → length starts ≡ length text → p.at ≡ at → 1 ≤ p.len → piece_there text at ≡ Some p → Went text starts last at → Went text (slice_set starts at true) p.at (at + p.len)
+pub went_on : (text : List ℕ) (starts : List Bool) (last at : ℕ) (p : Piece) → at < length text → length starts ≡ length text → p.at ≡ at
+    → 1 ≤ p.len → piece_there text at ≡ Some p → Went text starts last at → Went text (slice_set starts at true) p.at (at + p.len)
 went_on text starts last at p lt len place some there went = record {
   ps = went.ps ++ p ∷ [];
   goes = goes_on text went.ps at p lt some there went.goes;
@@ -138,7 +143,8 @@ went_on text starts last at p lt len place some there went = record {
   last_is = sym (last_one went.ps p);
 }
 
-pub went_wrong : (text : List ℕ) (starts : List Bool) (last at : ℕ) → at < length text → piece_there text at ≡ None → Went text starts last at → pieces_in text ≡ Err (Wrong at (stop_cause (drop at text)))
+pub went_wrong : (text : List ℕ) (starts : List Bool) (last at : ℕ) → at < length text → piece_there text at ≡ None
+    → Went text starts last at → pieces_in text ≡ Err (Wrong at (stop_cause (drop at text)))
 went_wrong text starts last at lt none went = goes_wrong text went.ps at lt none went.goes
 
 -- The sweep has come to the end.
@@ -152,7 +158,8 @@ all_are : (text : List ℕ) (ps : List Piece) → pieces_in text ≡ Ok ps → p
 unfolding all_pieces
 all_are text ps e = ap (λ (r : Result (List Piece) Refusal). result_unwrap_or r []) (sym e)
 
-pub is_through : (text : List ℕ) (starts : List Bool) (last at : ℕ) → length text ≤ at → at ≤ length text → Went text starts last at → IsThrough text starts last
+pub is_through : (text : List ℕ) (starts : List Bool) (last at : ℕ) → length text ≤ at → at ≤ length text → Went text starts last at
+    → IsThrough text starts last
 is_through text starts last at le within went =
     let e = goes_to_end text went.ps at le went.goes in
     let all = all_are text went.ps e in

@@ -34,11 +34,16 @@ abbrev joined : Swept → List Swept → List Swept
 joined s ss = s ∷ ss
 
 module _ (entrance : ℕ → Bool) where
-  leads_by : (s : Swept) (b : Bool) → is_direct_branch s.insn.op ≡ b → leads_wrong entrance (piece_of s).role ≡ (b && not (entrance (target_of s.at s.len s.insn)))
+  leads_by : (s : Swept) (b : Bool) → is_direct_branch s.insn.op ≡ b
+      → leads_wrong entrance (piece_of s).role ≡ (b && not (entrance (target_of s.at s.len s.insn)))
   leads_by s true e = ap (leads_wrong entrance) (branch_role s e)
-  leads_by s false e = ap (λ b. leads_wrong entrance (cond b (role.Branch (target_of s.at s.len s.insn)) (cond (is_nop s.insn.op) role.Nop (site_role (sensitive_kind s.insn))))) e ∙ other_leads entrance (is_nop s.insn.op) (sensitive_kind s.insn)
+  leads_by s false e =
+      ap (λ b. leads_wrong entrance
+      (cond b (role.Branch (target_of s.at s.len s.insn)) (cond (is_nop s.insn.op) role.Nop (site_role (sensitive_kind s.insn))))) e
+      ∙ other_leads entrance (is_nop s.insn.op) (sensitive_kind s.insn)
 
-  one_right : (s : Swept) → leads_wrong entrance (piece_of s).role ≡ false → is_direct_branch s.insn.op ≡ true → entrance (target_of s.at s.len s.insn) ≡ true
+  one_right : (s : Swept) → leads_wrong entrance (piece_of s).role ≡ false → is_direct_branch s.insn.op ≡ true
+      → entrance (target_of s.at s.len s.insn) ≡ true
   one_right s leads e = not-false _ (sym (leads_by s true e) ∙ leads)
 
   wrong_target_so : (swept : List Swept) (at : ℕ) → wrong_target entrance (map piece_of swept) ≡ Some at → Astray entrance swept at
@@ -49,7 +54,16 @@ module _ (entrance : ℕ → Bool) where
         | inl is ↦
             let e' : some t.at ≡ Some at = sym (ap (λ b. cond b (Some t.at) (wrong_target entrance (map piece_of rest))) is) ∙ e in
             let d = wrong_branch t is in
-            record { before = []; branch = t; later = rest; swept_are = refl; place = cc; direct = d.0; astray = d.1; right = λ s c b. absurd (none_in s c) }
+            record {
+              before = [];
+              branch = t;
+              later = rest;
+              swept_are = refl;
+              place = cc;
+              direct = d.0;
+              astray = d.1;
+              right = λ s c b. absurd (none_in s c);
+            }
         | inr leads ↦
             let more = wrong_target_so rest at (sym (ap (λ b. cond b (Some t.at) (wrong_target entrance (map piece_of rest))) leads) ∙ e) in
             record {
@@ -60,22 +74,34 @@ module _ (entrance : ℕ → Bool) where
               place = more.place;
               direct = more.direct;
               astray = more.astray;
-              right = λ s c b. elim (first_or_later t more.before s c) [ inl same ↦ one_right s (ap (λ (u : Swept). leads_wrong entrance (piece_of u).role) (sym same) ∙ leads) b | inr c' ↦ more.right s c' b ];
+              right = λ s c b. elim (first_or_later t more.before s c) [
+                | inl same ↦ one_right s (ap (λ (u : Swept). leads_wrong entrance (piece_of u).role) (sym same) ∙ leads) b
+                | inr c' ↦
+                    more.right s c' b
+              ];
             }
       ] where
-        wrong_branch : (s : Swept) → leads_wrong entrance (piece_of s).role ≡ true → (is_direct_branch s.insn.op ≡ true) × (entrance (target_of s.at s.len s.insn) ≡ false)
+        wrong_branch : (s : Swept) → leads_wrong entrance (piece_of s).role ≡ true → (is_direct_branch s.insn.op ≡ true)
+            × (entrance (target_of s.at s.len s.insn) ≡ false)
         wrong_branch s is = by (is_direct_branch s.insn.op) refl where
-          by : (b : Bool) → is_direct_branch s.insn.op ≡ b → (is_direct_branch s.insn.op ≡ true) × (entrance (target_of s.at s.len s.insn) ≡ false)
+          by : (b : Bool) → is_direct_branch s.insn.op ≡ b → (is_direct_branch s.insn.op ≡ true)
+              × (entrance (target_of s.at s.len s.insn) ≡ false)
           by true e = (e, not-true _ (sym (leads_by s true e) ∙ is))
           by false e = absurd (both_ways _ (leads_by s false e) is)
 
-  astray_first : (before : List Swept) (branch : Swept) (later : List Swept) → is_direct_branch branch.insn.op ≡ true → entrance (target_of branch.at branch.len branch.insn) ≡ false → ((s : Swept) → Contains before s → is_direct_branch s.insn.op ≡ true → entrance (target_of s.at s.len s.insn) ≡ true) → wrong_target entrance (map piece_of (before ++ branch ∷ later)) ≡ Some branch.at
+  astray_first : (before : List Swept) (branch : Swept) (later : List Swept) → is_direct_branch branch.insn.op ≡ true
+      → entrance (target_of branch.at branch.len branch.insn) ≡ false
+      → ((s : Swept) → Contains before s → is_direct_branch s.insn.op ≡ true → entrance (target_of s.at s.len s.insn) ≡ true)
+      → wrong_target entrance (map piece_of (before ++ branch ∷ later)) ≡ Some branch.at
   unfolding wrong_target
-  astray_first [] branch later direct astray right = ap (λ b. cond b (Some branch.at) (wrong_target entrance (map piece_of later))) (leads_by branch true direct ∙ ap not astray)
+  astray_first [] branch later direct astray right =
+      ap (λ b. cond b (Some branch.at) (wrong_target entrance (map piece_of later))) (leads_by branch true direct ∙ ap not astray)
   astray_first (t ∷ before) branch later direct astray right =
-      ap (λ b. cond b (Some t.at) (wrong_target entrance (map piece_of (before ++ branch ∷ later)))) (right_one t (right t (first_in t before)))
+      ap (λ b. cond b (Some t.at) (wrong_target entrance (map piece_of (before ++ branch ∷ later))))
+      (right_one t (right t (first_in t before)))
       ∙ astray_first before branch later direct astray (λ s c b. right s (later_in t before s c) b) where
-        right_one : (s : Swept) → (is_direct_branch s.insn.op ≡ true → entrance (target_of s.at s.len s.insn) ≡ true) → leads_wrong entrance (piece_of s).role ≡ false
+        right_one : (s : Swept) → (is_direct_branch s.insn.op ≡ true → entrance (target_of s.at s.len s.insn) ≡ true)
+            → leads_wrong entrance (piece_of s).role ≡ false
         right_one s h = by (is_direct_branch s.insn.op) refl where
           by : (b : Bool) → is_direct_branch s.insn.op ≡ b → leads_wrong entrance (piece_of s).role ≡ false
           by true e = leads_by s true e ∙ ap not (h e)
@@ -107,10 +133,12 @@ module _ (swept : List Swept) (sites : List Site) (at : ℕ) where
 -- ---- the entry
 
 module _ (parts : ImageParts) (swept : List Swept) (sites : List Site) (at : ℕ) where
-  pub entry_so : entry_start parts (map piece_of swept) sites ≡ Some at → (IsEntrance swept sites (entry_at parts) → ⊥) × (at ≡ entry_at parts)
+  pub entry_so : entry_start parts (map piece_of swept) sites ≡ Some at → (IsEntrance swept sites (entry_at parts) → ⊥)
+      × (at ≡ entry_at parts)
   entry_so e =
       let h = bad_so _ (entry_at parts) at e in
       ((λ is. both_ways _ (not-true _ h.0) (is_entrance_so swept sites (entry_at parts) is)), h.1)
 
-  pub so_entry : (IsEntrance swept sites (entry_at parts) → ⊥) × (at ≡ entry_at parts) → entry_start parts (map piece_of swept) sites ≡ Some at
+  pub so_entry : (IsEntrance swept sites (entry_at parts) → ⊥) × (at ≡ entry_at parts)
+      → entry_start parts (map piece_of swept) sites ≡ Some at
   so_entry h = so_bad _ (entry_at parts) at (ap not (false_from_ne_true _ (λ is. h.0 (entrance_is swept sites (entry_at parts) is)))) h.1

@@ -18,14 +18,18 @@ below_both before len i k e lt = grind (arith, nat_tests)
 past : (flags : List Bool) (k : ℕ) → length flags ≤ k → slice_index_or flags k false ≡ false
 past flags k le = grind (arith, common_steps)
 
-pub cleared : (old : List Bool) (behind before i k : ℕ) → min before (length old) ≡ i → (slice_index_or old k false && not (nat_lt behind k && nat_lt k i)) ≡ (slice_index_or old k false && not (nat_lt behind k && nat_lt k before))
+pub cleared : (old : List Bool) (behind before i k : ℕ) → min before (length old) ≡ i
+    → (slice_index_or old k false && not (nat_lt behind k && nat_lt k i))
+    ≡ (slice_index_or old k false && not (nat_lt behind k && nat_lt k before))
 cleared old behind before i k e =
     elim (cases_lt k (length old)) [
       | inl lt ↦ ap (λ b. slice_index_or old k false && not (nat_lt behind k && b)) (below_both before (length old) i k e lt)
-      | inr le ↦ ap (λ b. b && not (nat_lt behind k && nat_lt k i)) (past old k le) ∙ sym (ap (λ b. b && not (nat_lt behind k && nat_lt k before)) (past old k le))
+      | inr le ↦ ap (λ b. b && not (nat_lt behind k && nat_lt k i)) (past old k le)
+          ∙ sym (ap (λ b. b && not (nat_lt behind k && nat_lt k before)) (past old k le))
     ]
 
-first_is : (entrance : ℕ → Bool) (p : Piece) (rest : List Piece) → wrong_target entrance (p ∷ rest) ≡ cond (leads_wrong entrance p.role) (Some p.at) (wrong_target entrance rest)
+first_is : (entrance : ℕ → Bool) (p : Piece) (rest : List Piece) → wrong_target entrance (p ∷ rest) ≡ cond (leads_wrong entrance p.role)
+    (Some p.at) (wrong_target entrance rest)
 unfolding wrong_target
 first_is entrance p rest = refl
 
@@ -44,7 +48,8 @@ sought_first entrance text left = record { rest = all_pieces text; left = left; 
 
 module _ (entrance : ℕ → Bool) (text : List ℕ) (at : ℕ) (sought : Sought entrance text at) where
   pub sought_none : piece_there text at ≡ None → None ≡ wrong_target entrance (all_pieces text)
-  sought_none none = sym (none_is entrance) ∙ sym (ap (wrong_target entrance) (none_left text at sought.rest sought.left none)) ∙ sought.same
+  sought_none none =
+      sym (none_is entrance) ∙ sym (ap (wrong_target entrance) (none_left text at sought.rest sought.left none)) ∙ sought.same
 
   module _ (p : Piece) (there : piece_there text at ≡ Some p) where
     next : Next text at sought.rest p
@@ -75,4 +80,5 @@ leads_same f g same p = by_role p.role where
 pub wrong_target-same : (f g : ℕ → Bool) → ((k : ℕ) → f k ≡ g k) → (ps : List Piece) → wrong_target f ps ≡ wrong_target g ps
 unfolding wrong_target
 wrong_target-same f g same [] = refl
-wrong_target-same f g same (p ∷ ps) = ap (λ b. cond b (Some p.at) (wrong_target f ps)) (leads_same f g same p) ∙ ap (cond (leads_wrong g p.role) (Some p.at)) (wrong_target-same f g same ps)
+wrong_target-same f g same (p ∷ ps) = ap (λ b. cond b (Some p.at) (wrong_target f ps)) (leads_same f g same p)
+    ∙ ap (cond (leads_wrong g p.role) (Some p.at)) (wrong_target-same f g same ps)

@@ -46,7 +46,8 @@ pub record IsAccepted (image : Image) : Type 0 where
   pub sweep : Sweep image.text swept
   pub ends : ends_at image.text (last_at (map piece_of swept)) ≡ true
   pub sites : sites_of (map piece_of swept) ≡ Some image.sites
-  pub targets : (s : Swept) → Contains swept s → is_direct_branch s.insn.op ≡ true → IsEntrance swept image.sites (target_of s.at s.len s.insn)
+  pub targets : (s : Swept) → Contains swept s → is_direct_branch s.insn.op ≡ true
+      → IsEntrance swept image.sites (target_of s.at s.len s.insn)
   pub entry : IsEntrance swept image.sites (image.entry - TEXT_ADDRESS)
 
 -- The file has the form of an image, its parts are at their places, its annotations are those of the sites of its

@@ -53,4 +53,6 @@ abbrev pub wrong : ImageParts → CheckCause → Option ℕ
 wrong parts cause = wrong_by cause parts (sweep parts.text) (listed parts.sites)
 
 abbrev pub causes : List CheckCause
-causes = TextPlace ∷ InitPlace ∷ TextSize ∷ InitSize ∷ EntryPlace ∷ RefusedCode ∷ BadCode ∷ TextEnd ∷ SitesForm ∷ SiteWrong ∷ Target ∷ EntryStart ∷ []
+causes =
+    TextPlace ∷ InitPlace ∷ TextSize ∷ InitSize ∷ EntryPlace ∷ RefusedCode ∷ BadCode ∷ TextEnd ∷ SitesForm ∷ SiteWrong ∷
+    Target ∷ EntryStart ∷ []

@@ -44,7 +44,8 @@ entered parts ps sites = do
   test EntryStart (entry_start parts ps sites)
 
 abbrev pub image_with : ImageParts → List Site → Image
-image_with parts sites = record { text = parts.text; init = parts.init; bss = parts.bss; entry = parts.entry; sites = sites; format = told_format parts.sites }
+image_with parts sites =
+    record { text = parts.text; init = parts.init; bss = parts.bss; entry = parts.entry; sites = sites; format = told_format parts.sites }
 
 -- the image of parts
 unfoldable pub image_from : ImageParts → Result Image Refusal

@@ -32,7 +32,8 @@ abbrev pub site_role : Option SiteKind → Role
 site_role kind = option_map_or role.Site kind role.Plain
 
 abbrev pub role_of : ℕ → ℕ → Insn → Role
-role_of at len insn = if is_direct_branch insn.op then role.Branch (target_of at len insn) else if is_nop insn.op then role.Nop else site_role (sensitive_kind insn)
+role_of at len insn = if is_direct_branch insn.op then role.Branch (target_of at len insn) else if is_nop insn.op then role.Nop
+    else site_role (sensitive_kind insn)
 
 abbrev pub piece_of : Swept → Piece
 piece_of s = record { at = s.at; len = s.len; role = role_of s.at s.len s.insn }

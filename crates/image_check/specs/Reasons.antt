@@ -86,7 +86,8 @@ IsWrong TextEnd parts at = EndsOtherwise parts.text at
 IsWrong SitesForm parts at = listed parts.sites ≡ Err at
 IsWrong SiteWrong parts at = (b : BothRead parts) × IsLowest (IsWrongAt b.swept b.sites) at
 IsWrong Target parts at = (b : BothRead parts) × LeadsAstray b.swept b.sites at
-IsWrong EntryStart parts at = (b : BothRead parts) × (IsEntrance b.swept b.sites (parts.entry - TEXT_ADDRESS) → ⊥) × (at ≡ parts.entry - TEXT_ADDRESS)
+IsWrong EntryStart parts at =
+    (b : BothRead parts) × (IsEntrance b.swept b.sites (parts.entry - TEXT_ADDRESS) → ⊥) × (at ≡ parts.entry - TEXT_ADDRESS)
 
 -- An image is wrong by a cause, and by none that comes before it in the order of the causes.
 pub record IsRefused (parts : ImageParts) (at : ℕ) (cause : CheckCause) : Type 0 where

@@ -8,7 +8,8 @@ use Rattle.image_check.specs.Sweep.{Swept}
 -- another, and some bytes are left.
 abbrev pub SweepsTo : ℕ → List ℕ → List Swept → ℕ → List ℕ → Type 0
 SweepsTo from bytes [] to rest = (from ≡ to) × (bytes ≡ rest)
-SweepsTo from bytes (s ∷ swept) to rest = (s.at ≡ from) × Begins bytes s.insn s.len × SweepsTo (from + s.len) (drop s.len bytes) swept to rest
+SweepsTo from bytes (s ∷ swept) to rest =
+    (s.at ≡ from) × Begins bytes s.insn s.len × SweepsTo (from + s.len) (drop s.len bytes) swept to rest
 
 -- The spellings of the instructions, joined in order, are the text.
 abbrev pub Sweep : List ℕ → List Swept → Type 0

@@ -16,7 +16,8 @@ use Rattle.image_check.proofs.Layouts.{sweeps, laid_in, apart, lies, site_listed
 use Rattle.image_laws.proofs.Instructions.{between, begun_there}
 
 module _ (image : Image) (h : IsAccepted image) where
-  pub site_there : (at : ℕ) (site : Site) → Contains image.sites site → site.at ≤ at → at < site.at + site.total → site_at image.sites at ≡ Some site
+  pub site_there : (at : ℕ) (site : Site) → Contains image.sites site → site.at ≤ at → at < site.at + site.total
+      → site_at image.sites at ≡ Some site
   site_there at site c le lt = listed_site 0 at image.sites (length image.text) (apart image h) site c le lt
 
   pub room : (s : Swept) → Contains (swept_of image.text) s → (1 ≤ s.len) × (s.at + s.len ≤ length image.text)
@@ -25,7 +26,8 @@ module _ (image : Image) (h : IsAccepted image) where
   pub begun : (s : Swept) → Contains (swept_of image.text) s → Begins (drop s.at image.text) s.insn s.len
   begun s c =
       let same : s.at - 0 ≡ s.at = omega arith in
-      subst (λ (k : ℕ). Begins (drop k image.text) s.insn s.len) same (begun_there 0 image.text (swept_of image.text) (length image.text) [] (sweeps image h) s c)
+      subst (λ (k : ℕ). Begins (drop k image.text) s.insn s.len) same
+      (begun_there 0 image.text (swept_of image.text) (length image.text) [] (sweeps image h) s c)
 
   -- ---- outside sites
 
@@ -49,7 +51,8 @@ module _ (image : Image) (h : IsAccepted image) where
   pub insensitive : (s : Swept) → StandsOutside image s → sensitive_kind s.insn ≡ None
   insensitive s out = (clear s out).insensitive
 
-  pub outside_apart : (s : Swept) → StandsOutside image s → (site : Site) → Contains image.sites site → (s.at + s.len ≤ site.at) ⊎ (site.at + site.total ≤ s.at)
+  pub outside_apart : (s : Swept) → StandsOutside image s → (site : Site) → Contains image.sites site → (s.at + s.len ≤ site.at)
+      ⊎ (site.at + site.total ≤ s.at)
   outside_apart s out site c = (clear s out).apart site c
 
   pub outside_bytes : (s : Swept) → StandsOutside image s → (k : ℕ) → s.at ≤ k → k < s.at + s.len → site_at image.sites k ≡ None
@@ -81,7 +84,8 @@ module _ (image : Image) (h : IsAccepted image) where
       place_is s (inl alone) = alone.place
       place_is s (inr pair) = pair.place
 
-  pub held : (site : Site) (s : Swept) → StandsInside image site s → PartOf site s × (site.at ≤ s.at) × (s.at + s.len ≤ site.at + site.total)
+  pub held : (site : Site) (s : Swept) → StandsInside image site s → PartOf site s × (site.at ≤ s.at)
+      × (s.at + s.len ≤ site.at + site.total)
   held site s is =
       let listed = site_listed s.at image.sites site is.inside in
       elim (lies image h s is.stands).where_it_lies [

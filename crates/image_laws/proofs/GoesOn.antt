@@ -20,7 +20,8 @@ use Rattle.image_check.specs.Standing.{StandsOutside}
 use Rattle.image_laws.specs.WaysIn.{IsWayIn}
 use Rattle.image_laws.proofs.WaysOn.{next_outside, branch_way, here_way, next_address, branch_address}
 
-goes_by : EipGoesOn → (i : Insn) (len : ℕ) (r : Regs) (b : ℕ → ℕ) (after : Regs) (stores : Stores) → effect i len r b ≡ Done after stores → IsEipAfter i.op i len r after.eip
+goes_by : EipGoesOn → (i : Insn) (len : ℕ) (r : Regs) (b : ℕ → ℕ) (after : Regs) (stores : Stores) → effect i len r b ≡ Done after stores
+    → IsEipAfter i.op i len r after.eip
 goes_by goes i len r b after stores e = subst (Leads i.op i len r) e (goes i len r b)
 
 branch_is : (o : Op) → IsBranch o → is_direct_branch o ≡ true
@@ -33,15 +34,18 @@ abbrev eip_of : Outcome → ℕ
 eip_of (Done after stores) = after.eip
 eip_of _ = 0
 
-jump_done : (i : Insn) (len : ℕ) (r after : Regs) (stores : Stores) → jump i len r ≡ Done after stores → ((r.eip + len) % 2 ^ 32 + i.imm) % 2 ^ 32 ≡ after.eip
+jump_done : (i : Insn) (len : ℕ) (r after : Regs) (stores : Stores) → jump i len r ≡ Done after stores
+    → ((r.eip + len) % 2 ^ 32 + i.imm) % 2 ^ 32 ≡ after.eip
 unfolding jump
 jump_done i len r after stores e = ap eip_of e
 
-jumps_by : (i : Insn) (len : ℕ) (r : Regs) (b : ℕ → ℕ) (after : Regs) (stores : Stores) → i.op ≡ op.Jmp → effect i len r b ≡ Done after stores → ((r.eip + len) % 2 ^ 32 + i.imm) % 2 ^ 32 ≡ after.eip
+jumps_by : (i : Insn) (len : ℕ) (r : Regs) (b : ℕ → ℕ) (after : Regs) (stores : Stores) → i.op ≡ op.Jmp
+    → effect i len r b ≡ Done after stores → ((r.eip + len) % 2 ^ 32 + i.imm) % 2 ^ 32 ≡ after.eip
 unfolding effect
 jumps_by i len r b after stores is e = jump_done i len r after stores (ap (λ (o : Op). row o i len r b) (sym is) ∙ e)
 
-module _ (goes : EipGoesOn) (image : Image) (h : IsAccepted image) (s : Swept) (out : StandsOutside image s) (r : Regs) (here : r.eip ≡ linear s.at) where
+module _ (goes : EipGoesOn) (image : Image) (h : IsAccepted image) (s : Swept) (out : StandsOutside image s) (r : Regs)
+    (here : r.eip ≡ linear s.at) where
   abbrev Arrives : ℕ → Type 0
   Arrives eip = (at : ℕ) × (eip ≡ linear at) × IsWayIn image at
 
@@ -49,10 +53,14 @@ module _ (goes : EipGoesOn) (image : Image) (h : IsAccepted image) (s : Swept) (
   next_is = ap (λ k. (k + s.len) % 2 ^ 32) here ∙ next_address image h s out.stands
 
   by_branch : is_direct_branch s.insn.op ≡ true → (eip : ℕ) → eip ≡ ((r.eip + s.len) % 2 ^ 32 + s.insn.imm) % 2 ^ 32 → Arrives eip
-  by_branch branch eip e =
-      (target_of s.at s.len s.insn, e ∙ ap (λ k. (k + s.insn.imm) % 2 ^ 32) next_is ∙ branch_address image h s out.stands branch, branch_way image h s out.stands branch)
+  by_branch branch eip e = (
+    target_of s.at s.len s.insn,
+    e ∙ ap (λ k. (k + s.insn.imm) % 2 ^ 32) next_is ∙ branch_address image h s out.stands branch,
+    branch_way image h s out.stands branch,
+  )
 
-  pub arrives : (b : ℕ → ℕ) (after : Regs) (stores : Stores) → effect s.insn s.len r b ≡ Done after stores → (at : ℕ) × (after.eip ≡ linear at) × IsWayIn image at
+  pub arrives : (b : ℕ → ℕ) (after : Regs) (stores : Stores) → effect s.insn s.len r b ≡ Done after stores → (at : ℕ)
+      × (after.eip ≡ linear at) × IsWayIn image at
   arrives b after stores e =
       elim (next_outside image h s out) [
         | inl way ↦ elim (goes_by goes s.insn s.len r b after stores e) [

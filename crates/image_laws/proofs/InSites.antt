@@ -49,7 +49,8 @@ module _ (image : Image) (h : IsAccepted image) where
       ]
 
   -- what stands at a start inside a site
-  part_there : (site : Site) → Contains image.sites site → (k : ℕ) → site.at ≤ k → k < site.at + site.total → is_start image.text k ≡ true → (s : Swept) × StandsInside image site s × (s.at ≡ k)
+  part_there : (site : Site) → Contains image.sites site → (k : ℕ) → site.at ≤ k → k < site.at + site.total → is_start image.text k ≡ true
+      → (s : Swept) × StandsInside image site s × (s.at ≡ k)
   part_there site c k le lt start =
       let s = started image.text k start in
       (s.0, record { stands = s.1; inside = ap (site_at image.sites) s.2 ∙ site_there image h k site c le lt }, s.2)
@@ -71,7 +72,8 @@ module _ (image : Image) (h : IsAccepted image) where
     hlt_start pair = let f = first_part image h site c in sti_next f.0 f.1 f.2 pair
 
     -- after HLT
-    hlt_next : (s : Swept) → StandsInside image site s → s.at ≡ site.at + 1 → site.len ≡ 2 → PartOf site s → is_start image.text (site.at + site.len) ≡ true
+    hlt_next : (s : Swept) → StandsInside image site s → s.at ≡ site.at + 1 → site.len ≡ 2 → PartOf site s
+        → is_start image.text (site.at + site.len) ≡ true
     hlt_next s is at two (Alone a) = let place = a.place in absurd (omega (arith, place, at))
     hlt_next s is at two (PairSti a) = let place = a.place in absurd (omega (arith, place, at))
     hlt_next s is at two (Padding a) = let behind = a.behind in absurd (omega (arith, behind, at, two))

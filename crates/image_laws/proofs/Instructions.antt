@@ -13,14 +13,16 @@ use Rattle.image_check.proofs.Laid.{first_in, later_in, first_or_later, none_in}
 use Rattle.image_check.proofs.Room.{goes_up}
 
 -- An instruction has a byte, and lies between the ends of the sweep.
-pub between : (from : ℕ) (bytes : List ℕ) (swept : List Swept) (to : ℕ) (left : List ℕ) → SweepsTo from bytes swept to left → (s : Swept) → Contains swept s → (from ≤ s.at) × (1 ≤ s.len) × (s.at + s.len ≤ to)
+pub between : (from : ℕ) (bytes : List ℕ) (swept : List Swept) (to : ℕ) (left : List ℕ) → SweepsTo from bytes swept to left → (s : Swept)
+    → Contains swept s → (from ≤ s.at) × (1 ≤ s.len) × (s.at + s.len ≤ to)
 between from bytes [] to left h s c = absurd (none_in s c)
 between from bytes (t ∷ swept) to left h s c =
     elim (first_or_later t swept s c) [
       | inl e ↦
           let at = h.0 in
           let up = goes_up (from + t.len) (drop t.len bytes) swept to left h.2 in
-          subst (λ (u : Swept). (from ≤ u.at) × (1 ≤ u.len) × (u.at + u.len ≤ to)) e (omega (arith, at), begun_has_byte bytes t.insn t.len h.1, omega (arith, at, up))
+          subst (λ (u : Swept). (from ≤ u.at) × (1 ≤ u.len) × (u.at + u.len ≤ to)) e
+          (omega (arith, at), begun_has_byte bytes t.insn t.len h.1, omega (arith, at, up))
       | inr d ↦
           let later = between (from + t.len) (drop t.len bytes) swept to left h.2 s d in
           let above = later.0 in
@@ -28,22 +30,26 @@ between from bytes (t ∷ swept) to left h s c =
     ]
 
 -- Its spelling begins the bytes there.
-pub begun_there : (from : ℕ) (bytes : List ℕ) (swept : List Swept) (to : ℕ) (left : List ℕ) → SweepsTo from bytes swept to left → (s : Swept) → Contains swept s → Begins (drop (s.at - from) bytes) s.insn s.len
+pub begun_there : (from : ℕ) (bytes : List ℕ) (swept : List Swept) (to : ℕ) (left : List ℕ) → SweepsTo from bytes swept to left
+    → (s : Swept) → Contains swept s → Begins (drop (s.at - from) bytes) s.insn s.len
 begun_there from bytes [] to left h s c = absurd (none_in s c)
 begun_there from bytes (t ∷ swept) to left h s c =
     elim (first_or_later t swept s c) [
       | inl e ↦
           let at = h.0 in
           let none : 0 ≡ t.at - from = omega (arith, at) in
-          subst (λ (u : Swept). Begins (drop (u.at - from) bytes) u.insn u.len) e (subst (λ (k : ℕ). Begins (drop k bytes) t.insn t.len) none h.1)
+          subst (λ (u : Swept). Begins (drop (u.at - from) bytes) u.insn u.len) e
+          (subst (λ (k : ℕ). Begins (drop k bytes) t.insn t.len) none h.1)
       | inr d ↦
           let above = (between (from + t.len) (drop t.len bytes) swept to left h.2 s d).0 in
           let sum : t.len + (s.at - (from + t.len)) ≡ s.at - from = omega (arith, above) in
-          subst (λ (bs : List ℕ). Begins bs s.insn s.len) (drop-drop (s.at - (from + t.len)) t.len bytes ∙ ap (λ k. drop k bytes) sum) (begun_there (from + t.len) (drop t.len bytes) swept to left h.2 s d)
+          subst (λ (bs : List ℕ). Begins bs s.insn s.len) (drop-drop (s.at - (from + t.len)) t.len bytes ∙ ap (λ k. drop k bytes) sum)
+          (begun_there (from + t.len) (drop t.len bytes) swept to left h.2 s d)
     ]
 
 -- Two instructions at one place are one.
-pub one_there : (from : ℕ) (bytes : List ℕ) (swept : List Swept) (to : ℕ) (left : List ℕ) → SweepsTo from bytes swept to left → (s t : Swept) → Contains swept s → Contains swept t → s.at ≡ t.at → s ≡ t
+pub one_there : (from : ℕ) (bytes : List ℕ) (swept : List Swept) (to : ℕ) (left : List ℕ) → SweepsTo from bytes swept to left
+    → (s t : Swept) → Contains swept s → Contains swept t → s.at ≡ t.at → s ≡ t
 one_there from bytes [] to left h s t c d same = absurd (none_in s c)
 one_there from bytes (u ∷ swept) to left h s t c d same =
     elim (first_or_later u swept s c) [
@@ -66,18 +72,21 @@ one_there from bytes (u ∷ swept) to left h s t c d same =
         omega (arith, above, some, at, there, is)
 
 -- After it the sweep ends, or the next one stands.
-pub next_there : (from : ℕ) (bytes : List ℕ) (swept : List Swept) (to : ℕ) (left : List ℕ) → SweepsTo from bytes swept to left → (s : Swept) → Contains swept s → (s.at + s.len ≡ to) ⊎ ((t : Swept) × Contains swept t × (t.at ≡ s.at + s.len))
+pub next_there : (from : ℕ) (bytes : List ℕ) (swept : List Swept) (to : ℕ) (left : List ℕ) → SweepsTo from bytes swept to left → (s : Swept)
+    → Contains swept s → (s.at + s.len ≡ to) ⊎ ((t : Swept) × Contains swept t × (t.at ≡ s.at + s.len))
 next_there from bytes [] to left h s c = absurd (none_in s c)
 next_there from bytes (u ∷ swept) to left h s c =
     elim (first_or_later u swept s c) [
-      | inl e ↦ subst (λ (v : Swept). (v.at + v.len ≡ to) ⊎ ((t : Swept) × Contains (u ∷ swept) t × (t.at ≡ v.at + v.len))) e (by_rest swept h.2)
+      | inl e ↦ subst (λ (v : Swept). (v.at + v.len ≡ to) ⊎ ((t : Swept) × Contains (u ∷ swept) t × (t.at ≡ v.at + v.len)))
+          e (by_rest swept h.2)
       | inr d ↦ elim (next_there (from + u.len) (drop u.len bytes) swept to left h.2 s d) [
         | inl end ↦ inl end
         | inr more ↦ inr (more.0, later_in u swept more.0 more.1, more.2)
       ]
     ]
   where
-    by_rest : (rest : List Swept) → SweepsTo (from + u.len) (drop u.len bytes) rest to left → (u.at + u.len ≡ to) ⊎ ((t : Swept) × Contains (u ∷ rest) t × (t.at ≡ u.at + u.len))
+    by_rest : (rest : List Swept) → SweepsTo (from + u.len) (drop u.len bytes) rest to left → (u.at + u.len ≡ to)
+        ⊎ ((t : Swept) × Contains (u ∷ rest) t × (t.at ≡ u.at + u.len))
     by_rest [] k = inl (let at = h.0 in let e = k.0 in omega (arith, at, e))
     by_rest (t ∷ rest) k = inr (t, later_in u (t ∷ rest) t (first_in t rest), (let at = h.0 in let e = k.0 in omega (arith, at, e)))
 
@@ -90,7 +99,8 @@ last_later s t swept =
     ap (λ k. at_of (slice_get (map piece_of (s ∷ t ∷ swept)) k)) e
 
 -- The one with which the sweep ends is the last.
-pub last_there : (from : ℕ) (bytes : List ℕ) (swept : List Swept) (to : ℕ) (left : List ℕ) → SweepsTo from bytes swept to left → (s : Swept) → Contains swept s → s.at + s.len ≡ to → last_at (map piece_of swept) ≡ s.at
+pub last_there : (from : ℕ) (bytes : List ℕ) (swept : List Swept) (to : ℕ) (left : List ℕ) → SweepsTo from bytes swept to left → (s : Swept)
+    → Contains swept s → s.at + s.len ≡ to → last_at (map piece_of swept) ≡ s.at
 last_there from bytes [] to left h s c end = absurd (none_in s c)
 last_there from bytes (u ∷ []) to left h s c end =
     elim (first_or_later u [] s c) [

@@ -18,7 +18,8 @@ front_cut bytes insn n s lt =
       next = get_or bytes n 0;
       more = drop (n + 1) bytes;
       insn = insn;
-      whole = subst (λ (bs : List ℕ). Spells bs insn) (sym (take-append-drop n bytes) ∙ ap (λ (bs : List ℕ). take n bytes ++ bs) (drop_more bytes n 0 lt)) s;
+      whole = subst (λ (bs : List ℕ). Spells bs insn)
+          (sym (take-append-drop n bytes) ∙ ap (λ (bs : List ℕ). take n bytes ++ bs) (drop_more bytes n 0 lt)) s;
     } in
     (exactly_short (decoded (take n bytes)) (take n bytes) (answered (take n bytes) (AreBytes-take n bytes s.by_row.fit))).1 cut
 
@@ -26,7 +27,8 @@ module _ (m : List ℕ) (at : ℕ) (insn : Insn) (len : ℕ) (spelled : Spells (
   pub whole_at : (n : ℕ) → len ≤ n → (more : List ℕ) → decoded (part m at n ++ more) ≡ answer.Insn insn len
   whole_at n le more =
       let sum : len + (n - len) ≡ n = omega arith in
-      let two : part m at n ≡ part m at len ++ part m (at + len) (n - len) = ap (part m at) (sym sum) ∙ sym (part-append m at len (n - len)) in
+      let two : part m at n ≡ part m at len ++ part m (at + len) (n - len) =
+      ap (part m at) (sym sum) ∙ sym (part-append m at len (n - len)) in
       ap (λ (bs : List ℕ). decoded (bs ++ more)) two
       ∙ ap decoded (append_assoc (part m at len) (part m (at + len) (n - len)) more)
       ∙ decoded_back (part m at len) (part m (at + len) (n - len) ++ more) insn spelled
@@ -34,4 +36,5 @@ module _ (m : List ℕ) (at : ℕ) (insn : Insn) (len : ℕ) (spelled : Spells (
 
   pub cut_at : (n : ℕ) → n < len → decoded (part m at n) ≡ answer.Short
   unfolding part
-  cut_at n lt = ap decoded (sym (take-take n len (drop at m) (omega arith))) ∙ front_cut (part m at len) insn n spelled (omega (arith, full))
+  cut_at n lt =
+      ap decoded (sym (take-take n len (drop at m) (omega arith))) ∙ front_cut (part m at len) insn n spelled (omega (arith, full))

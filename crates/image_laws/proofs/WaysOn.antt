@@ -51,19 +51,24 @@ outside_there image at e =
     let s = started image.text at is.0 in
     (s.0, record { stands = s.1; outside = ap (site_at image.sites) s.2 ∙ is.1 }, s.2)
 
-pub inside_there : (image : Image) (at : ℕ) (site : Site) → place_of image at ≡ Inside site → (s : Swept) × StandsInside image site s × (s.at ≡ at)
+pub inside_there : (image : Image) (at : ℕ) (site : Site) → place_of image at ≡ Inside site → (s : Swept)
+    × StandsInside image site s × (s.at ≡ at)
 inside_there image at site e =
     let is = inside_by (is_start image.text at) (site_at image.sites at) site e in
     let s = started image.text at is.0 in
     (s.0, record { stands = s.1; inside = ap (site_at image.sites) s.2 ∙ is.1 }, s.2)
 
-way_by : (image : Image) (at : ℕ) → IsWayIn image at → (o : Option Site) → site_at image.sites at ≡ o → (by_site o ≡ Outside) ⊎ ((site : Site) × (by_site o ≡ Inside site) × (site.at ≡ at))
+way_by : (image : Image) (at : ℕ) → IsWayIn image at → (o : Option Site) → site_at image.sites at ≡ o → (by_site o ≡ Outside)
+    ⊎ ((site : Site) × (by_site o ≡ Inside site) × (site.at ≡ at))
 way_by image at way None e = inl refl
 way_by image at way (Some site) e = inr (site, refl, way.first site e)
 
-pub way_place : (image : Image) (at : ℕ) → IsWayIn image at → (place_of image at ≡ Outside) ⊎ ((site : Site) × (place_of image at ≡ Inside site) × (site.at ≡ at))
+pub way_place : (image : Image) (at : ℕ) → IsWayIn image at → (place_of image at ≡ Outside)
+    ⊎ ((site : Site) × (place_of image at ≡ Inside site) × (site.at ≡ at))
 way_place image at way =
-    subst (λ b. (cond b (by_site (site_at image.sites at)) NotAStart ≡ Outside) ⊎ ((site : Site) × (cond b (by_site (site_at image.sites at)) NotAStart ≡ Inside site) × (site.at ≡ at))) (sym way.start) (way_by image at way (site_at image.sites at) refl)
+    subst (λ b. (cond b (by_site (site_at image.sites at)) NotAStart ≡ Outside)
+    ⊎ ((site : Site) × (cond b (by_site (site_at image.sites at)) NotAStart ≡ Inside site) × (site.at ≡ at))) (sym way.start) (way_by image
+    at way (site_at image.sites at) refl)
 
 not_below : (at : ℕ) → nat_lt (linear at) 0x10000000 ≡ false
 not_below at = grind (arith, nat_tests)
@@ -73,7 +78,8 @@ linear_place image at =
     let back : linear at - 0x10000000 ≡ at = omega arith in
     ap (λ b. cond b NotAStart (place_of image (linear at - 0x10000000))) (not_below at) ∙ ap (place_of image) back
 
-not_start_by : (below starts : Bool) (o : Option Site) → (cond below NotAStart (cond starts (by_site o) NotAStart) ≡ NotAStart) ↔ ((not below && starts) ≡ false)
+not_start_by : (below starts : Bool) (o : Option Site) → (cond below NotAStart (cond starts (by_site o) NotAStart) ≡ NotAStart) ↔
+    ((not below && starts) ≡ false)
 not_start_by true starts o = ((λ e. refl), (λ e. refl))
 not_start_by false true None = ((λ e. absurd cc), (λ e. absurd cc))
 not_start_by false true (Some site) = ((λ e. absurd cc), (λ e. absurd cc))
@@ -112,18 +118,24 @@ jump_is bytes insn s e =
     let same : answer.Insn insn (length bytes) ≡ answer.Insn jump_to_itself 2 = sym back ∙ ap decoded e ∙ jump_decoded in
     cc same
 
-two_bytes : (text : List ℕ) (at b c : ℕ) → at + 2 ≡ length text → slice_index text at ≡ b → slice_index text (at + 1) ≡ c → take 2 (drop at text) ≡ b ∷ c ∷ []
+two_bytes : (text : List ℕ) (at b c : ℕ) → at + 2 ≡ length text → slice_index text at ≡ b → slice_index text (at + 1) ≡ c
+    → take 2 (drop at text) ≡ b ∷ c ∷ []
 two_bytes text at b c end first second = same_lists _ _ (grind (arith, places)) (λ k d lt. grind (arith, places))
 
 module _ (image : Image) (h : IsAccepted image) where
   -- ---- the next instruction
 
-  ends_there : (s : Swept) → last_at (map piece_of h.swept) ≡ s.at → (s.at + 2 ≡ length image.text) × (slice_index image.text s.at ≡ 0xEB) × (slice_index image.text (s.at + 1) ≡ 0xFE)
+  ends_there : (s : Swept) → last_at (map piece_of h.swept) ≡ s.at → (s.at + 2 ≡ length image.text) × (slice_index image.text s.at ≡ 0xEB)
+      × (slice_index image.text (s.at + 1) ≡ 0xFE)
   ends_there s e =
       let is : ends_at image.text s.at ≡ true = ap (ends_at image.text) (sym e) ∙ h.ends in
-      let a = and_parts (s.at + 2 == length image.text && slice_index image.text s.at == 0xEB) (slice_index image.text (s.at + 1) == 0xFE) is in
-      let b = and_parts (s.at + 2 == length image.text) (slice_index image.text s.at == 0xEB) a.0 in
-      (eqb-true (s.at + 2) (length image.text) b.0, eqb-true (slice_index image.text s.at) 0xEB b.1, eqb-true (slice_index image.text (s.at + 1)) 0xFE a.1)
+      let a =
+      and_parts (s.at + 2 == length image.text && slice_index image.text s.at == 0xEB) (slice_index image.text (s.at + 1) == 0xFE) is in
+      let b = and_parts (s.at + 2 == length image.text) (slice_index image.text s.at == 0xEB) a.0 in (
+        eqb-true (s.at + 2) (length image.text) b.0,
+        eqb-true (slice_index image.text s.at) 0xEB b.1,
+        eqb-true (slice_index image.text (s.at + 1)) 0xFE a.1,
+      )
 
   pub is_last : (s : Swept) → Contains (swept_of image.text) s → s.at + s.len ≡ length image.text → IsLast image s
   is_last s c end =
@@ -132,7 +144,8 @@ module _ (image : Image) (h : IsAccepted image) where
       let close = at.0 in
       let two : s.len ≡ 2 = omega (arith, end, close) in
       let b = begun image h s c in
-      let bytes : take s.len (drop s.at image.text) ≡ 0xEB ∷ 0xFE ∷ [] = ap (λ k. take k (drop s.at image.text)) two ∙ two_bytes image.text s.at 0xEB 0xFE at.0 at.1 at.2 in
+      let bytes : take s.len (drop s.at image.text) ≡ 0xEB ∷ 0xFE ∷ [] =
+      ap (λ k. take k (drop s.at image.text)) two ∙ two_bytes image.text s.at 0xEB 0xFE at.0 at.1 at.2 in
       let jump = jump_is (take s.len (drop s.at image.text)) s.insn b.front bytes in
       let imm : s.insn.imm ≡ 4294967294 = ap (λ (i : Insn). i.imm) jump in
       let few = h.within.text.1 in
@@ -166,7 +179,9 @@ module _ (image : Image) (h : IsAccepted image) where
 
   way_in : (at : ℕ) → IsEntrance h.swept image.sites at → IsWayIn image at
   way_in at e = record {
-    start = (start_exact image.text at).1 (subst (λ (ks : List ℕ). Contains ks at) (ap (map (λ (s : Swept). s.at)) (sym (swept_is image h)) ∙ sym (starts_are image.text)) e.start);
+    start = (start_exact image.text at).1
+        (subst (λ (ks : List ℕ). Contains ks at) (ap (map (λ (s : Swept). s.at)) (sym (swept_is image h)) ∙ sym (starts_are image.text))
+        e.start);
     first = λ site is.
         let listed = site_listed at image.sites site is in
         let le = listed.1 in
@@ -180,8 +195,10 @@ module _ (image : Image) (h : IsAccepted image) where
           | inr not ↦ omega (arith, le, not)
         ]
 
-  pub branch_way : (s : Swept) → Contains (swept_of image.text) s → is_direct_branch s.insn.op ≡ true → IsWayIn image (target_of s.at s.len s.insn)
-  branch_way s c branch = way_in (target_of s.at s.len s.insn) (h.targets s (subst (λ (swept : List Swept). Contains swept s) (swept_is image h) c) branch)
+  pub branch_way : (s : Swept) → Contains (swept_of image.text) s → is_direct_branch s.insn.op ≡ true
+      → IsWayIn image (target_of s.at s.len s.insn)
+  branch_way s c branch =
+      way_in (target_of s.at s.len s.insn) (h.targets s (subst (λ (swept : List Swept). Contains swept s) (swept_is image h) c) branch)
 
   pub here_way : (s : Swept) → StandsOutside image s → IsWayIn image s.at
   here_way s out = record { start = starts image.text s out.stands; first = λ site is. absurd (let none = sym is ∙ out.outside in cc) }
@@ -220,7 +237,8 @@ module _ (image : Image) (h : IsAccepted image) where
       let ends = (room image h s c).1 in
       omega (arith, few, ends)
 
-  pub branch_address : (s : Swept) → Contains (swept_of image.text) s → is_direct_branch s.insn.op ≡ true → (linear (s.at + s.len) + s.insn.imm) % 2 ^ 32 ≡ linear (target_of s.at s.len s.insn)
+  pub branch_address : (s : Swept) → Contains (swept_of image.text) s → is_direct_branch s.insn.op ≡ true
+      → (linear (s.at + s.len) + s.insn.imm) % 2 ^ 32 ≡ linear (target_of s.at s.len s.insn)
   branch_address s c branch =
       let few = h.within.text.1 in
       let lt = start_below (target_of s.at s.len s.insn) (branch_way s c branch).start in

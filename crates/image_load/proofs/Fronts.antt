@@ -12,12 +12,14 @@ pub record Laid (n : ℕ) (whole front rest : List ℕ) : Type 0 where
   pub is : whole ≡ front ++ rest
   pub len : length front ≡ n
 
-part_in_front : (front rest : List ℕ) (a : ℕ) (bs : List ℕ) → a + length bs ≤ length front → with_part (front ++ rest) a bs ≡ with_part front a bs ++ rest
+part_in_front : (front rest : List ℕ) (a : ℕ) (bs : List ℕ) → a + length bs ≤ length front
+    → with_part (front ++ rest) a bs ≡ with_part front a bs ++ rest
 unfolding with_part
 part_in_front front rest a bs h = same_lists _ _ (grind (arith, places)) (λ k d i. grind (arith, places))
 
 -- a part in the front is a part of the whole
-pub laid_part : (n : ℕ) (whole front rest : List ℕ) (a : ℕ) (bs : List ℕ) → a + length bs ≤ n → Laid n whole front rest → Laid n (with_part whole a bs) (with_part front a bs) rest
+pub laid_part : (n : ℕ) (whole front rest : List ℕ) (a : ℕ) (bs : List ℕ) → a + length bs ≤ n → Laid n whole front rest
+    → Laid n (with_part whole a bs) (with_part front a bs) rest
 laid_part n whole front rest a bs h l =
     let room : a + length bs ≤ length front = omega (arith, h, l.len) in
     record {
@@ -41,8 +43,10 @@ rest_of n whole front rest l =
     ap (drop n) l.is ∙ same_lists _ _ (grind (arith, places, l.len)) (λ k d i. grind (arith, places, l.len))
 
 -- the memory at the start stands in the front of a memory that was zero
-pub laid_boot : (image : Image) (frames : ℕ) (m : List ℕ) → m ≡ replicate (length m) 0 → frames * 4096 ≤ length m → 2048 ≤ frames → frames ≤ 16384 → text_pages image ≤ 4096 → data_pages image ≤ 8192 → need image ≤ frames
-    → Laid (frames * 4096) (with_image (with_tables (with_directory (with_part m 0x2000 boot_descriptors) image frames) image frames) image) (boot_ram image frames) (drop (frames * 4096) m)
+pub laid_boot : (image : Image) (frames : ℕ) (m : List ℕ) → m ≡ replicate (length m) 0 → frames * 4096 ≤ length m → 2048 ≤ frames
+    → frames ≤ 16384 → text_pages image ≤ 4096 → data_pages image ≤ 8192 → need image ≤ frames
+    → Laid (frames * 4096) (with_image (with_tables (with_directory (with_part m 0x2000 boot_descriptors) image frames) image frames) image)
+    (boot_ram image frames) (drop (frames * 4096) m)
 laid_boot image frames m zero room low high texts datas fits =
     let n = frames * 4096 in
     let rest = drop n m in
@@ -52,7 +56,8 @@ laid_boot image frames m zero room low high texts datas fits =
     let x = length-frame_words 0 frames 3 in
     let y = length-frame_words 0x100 (text_pages image) 1 in
     let z = length-frame_words (data_frame image) (data_pages image) 3 in
-    let start : Laid n m (replicate n 0) rest = subst (λ (w : List ℕ). Laid n w (replicate n 0) (drop n w)) (sym zero) (laid_zeros n (length m) room) in
+    let start : Laid n m (replicate n 0) rest =
+    subst (λ (w : List ℕ). Laid n w (replicate n 0) (drop n w)) (sym zero) (laid_zeros n (length m) room) in
     let a = laid_part n _ _ rest 0x2000 boot_descriptors (omega (arith, low)) start in
     let b = laid_part n _ _ rest 0x1C00 (frame_words 4 (tables_of frames) 3) (omega (arith, low, high, t)) a in
     let c = laid_part n _ _ rest 0x1100 (frame_words 0x14 (tables_of (text_pages image)) 3) (omega (arith, low, texts, u)) b in

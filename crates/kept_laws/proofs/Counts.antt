@@ -27,7 +27,8 @@ unique_only : (xs : List ℕ) (q : ℕ) → is_member eqb (unique_keys eqb xs) q
 unique_only [] q h = h
 unique_only (x ∷ xs) q h = by (is_member eqb xs x) (unique_only xs q) h
   where
-    by : (b : Bool) → (is_member eqb (unique_keys eqb xs) q ≡ true → is_member eqb xs q ≡ true) → is_member eqb (cond b (unique_keys eqb xs) (x ∷ unique_keys eqb xs)) q ≡ true → is_member eqb (x ∷ xs) q ≡ true
+    by : (b : Bool) → (is_member eqb (unique_keys eqb xs) q ≡ true → is_member eqb xs q ≡ true)
+        → is_member eqb (cond b (unique_keys eqb xs) (x ∷ unique_keys eqb xs)) q ≡ true → is_member eqb (x ∷ xs) q ≡ true
     by true k h = member-next x xs q (k h)
     by false k h = elim (member-or x (unique_keys eqb xs) q h) [
       | inl e ↦ subst (λ (v : ℕ). is_member eqb (x ∷ xs) v ≡ true) (sym e) (member_first x xs)
@@ -36,22 +37,29 @@ unique_only (x ∷ xs) q h = by (is_member eqb xs x) (unique_only xs q) h
 
 pub absent_apart : (xs : List ℕ) (x : ℕ) → is_member eqb xs x ≡ false → AllByRecursion (λ y. eqb x y ≡ false) xs
 absent_apart [] x h = tt
-absent_apart (y ∷ ys) x h = (false_from_ne_true (eqb x y) (λ e. clash true refl (sym (ap (λ b. b || is_member eqb ys x) e) ∙ h)), absent_apart ys x (false_from_ne_true (is_member eqb ys x) (λ e. clash true refl (sym (member-next y ys x e) ∙ h))))
+absent_apart (y ∷ ys) x h = (
+  false_from_ne_true (eqb x y) (λ e. clash true refl (sym (ap (λ b. b || is_member eqb ys x) e) ∙ h)),
+  absent_apart ys x (false_from_ne_true (is_member eqb ys x) (λ e. clash true refl (sym (member-next y ys x e) ∙ h))),
+)
 
 unique_distinct : (xs : List ℕ) → IsDistinct eqb (unique_keys eqb xs)
 unfolding IsDistinct
 unique_distinct [] = tt
 unique_distinct (x ∷ xs) = by (is_member eqb xs x) refl (unique_distinct xs)
   where
-    by : (b : Bool) → is_member eqb xs x ≡ b → IsDistinct eqb (unique_keys eqb xs) → IsDistinct eqb (cond b (unique_keys eqb xs) (x ∷ unique_keys eqb xs))
+    by : (b : Bool) → is_member eqb xs x ≡ b → IsDistinct eqb (unique_keys eqb xs)
+        → IsDistinct eqb (cond b (unique_keys eqb xs) (x ∷ unique_keys eqb xs))
     by true is k = k
-    by false is k = (absent_apart (unique_keys eqb xs) x (false_from_ne_true _ (λ m. clash (is_member eqb xs x) (unique_only xs x m) is)), k)
+    by false is k =
+        (absent_apart (unique_keys eqb xs) x (false_from_ne_true _ (λ m. clash (is_member eqb xs x) (unique_only xs x m) is)), k)
 
 -- distinct numbers that are all in a list are no more than it has
-pub no_more : (seen pool : List ℕ) → IsDistinct eqb seen → ((q : ℕ) → is_member eqb seen q ≡ true → is_member eqb pool q ≡ true) → length seen ≤ distinct_count eqb pool
+pub no_more : (seen pool : List ℕ) → IsDistinct eqb seen → ((q : ℕ) → is_member eqb seen q ≡ true → is_member eqb pool q ≡ true)
+    → length seen ≤ distinct_count eqb pool
 no_more seen pool d h = length-le_from_is_member equal seen (unique_keys eqb pool) d (λ q m. unique-member pool q (h q m))
 
-pub fewer : (xs ys : List ℕ) → ((q : ℕ) → is_member eqb xs q ≡ true → is_member eqb ys q ≡ true) → distinct_count eqb xs ≤ distinct_count eqb ys
+pub fewer : (xs ys : List ℕ) → ((q : ℕ) → is_member eqb xs q ≡ true → is_member eqb ys q ≡ true)
+    → distinct_count eqb xs ≤ distinct_count eqb ys
 fewer xs ys h = no_more (unique_keys eqb xs) ys (unique_distinct xs) (λ q m. h q (unique_only xs q m))
 
 -- ---- all but one number
@@ -63,7 +71,8 @@ pub but_member : (c : ℕ) (xs : List ℕ) (q : ℕ) → (q ≡ c → ⊥) → i
 but_member c [] q ne h = h
 but_member c (x ∷ xs) q ne h = by (x == c) refl (but_member c xs q ne) (member-or x xs q h)
   where
-    by : (b : Bool) → (x == c) ≡ b → (is_member eqb xs q ≡ true → is_member eqb (but c xs) q ≡ true) → (q ≡ x) ⊎ (is_member eqb xs q ≡ true) → is_member eqb (cond (not b) (x ∷ but c xs) (but c xs)) q ≡ true
+    by : (b : Bool) → (x == c) ≡ b → (is_member eqb xs q ≡ true → is_member eqb (but c xs) q ≡ true) → (q ≡ x) ⊎ (is_member eqb xs q ≡ true)
+        → is_member eqb (cond (not b) (x ∷ but c xs) (but c xs)) q ≡ true
     by true is k (inl e) = absurd (ne (e ∙ eqb-true x c is))
     by true is k (inr m) = k m
     by false is k (inl e) = subst (λ (v : ℕ). is_member eqb (x ∷ but c xs) v ≡ true) (sym e) (member_first x (but c xs))
@@ -73,7 +82,9 @@ but_more : (c : ℕ) (xs ys : List ℕ) (q : ℕ) → is_member eqb (but c xs) q
 but_more c [] ys q h = absurd (let e : false ≡ true = h in cc)
 but_more c (x ∷ xs) ys q h = by (x == c) (but_more c xs ys q) h
   where
-    by : (b : Bool) → (is_member eqb (but c xs) q ≡ true → is_member eqb (but c (xs ++ ys)) q ≡ true) → is_member eqb (cond (not b) (x ∷ but c xs) (but c xs)) q ≡ true → is_member eqb (cond (not b) (x ∷ but c (xs ++ ys)) (but c (xs ++ ys))) q ≡ true
+    by : (b : Bool) → (is_member eqb (but c xs) q ≡ true → is_member eqb (but c (xs ++ ys)) q ≡ true)
+        → is_member eqb (cond (not b) (x ∷ but c xs) (but c xs)) q ≡ true
+        → is_member eqb (cond (not b) (x ∷ but c (xs ++ ys)) (but c (xs ++ ys))) q ≡ true
     by true k h = k h
     by false k h = elim (member-or x (but c xs) q h) [
       | inl e ↦ subst (λ (v : ℕ). is_member eqb (x ∷ but c (xs ++ ys)) v ≡ true) (sym e) (member_first x (but c (xs ++ ys)))

@@ -25,7 +25,8 @@ pub found_at_start : FoundAtStart
 found_at_start m now = record { each = λ c old left since o. absurd (none_split old left since o.split) }
 
 -- by words in frames that were read before, and with a further step
-found_wider : (m : Setting) (ram : List ℕ) (c : ℕ) (pse : Bool) (steps : List Taken) (t : Taken) (page : ℕ) (e : Entry) → IsFoundBy ram m.frames c pse (was_read steps) page e → IsFoundBy ram m.frames c pse (was_read (steps ++ t ∷ [])) page e
+found_wider : (m : Setting) (ram : List ℕ) (c : ℕ) (pse : Bool) (steps : List Taken) (t : Taken) (page : ℕ) (e : Entry)
+    → IsFoundBy ram m.frames c pse (was_read steps) page e → IsFoundBy ram m.frames c pse (was_read (steps ++ t ∷ [])) page e
 found_wider m ram c pse steps t page e h = record {
   dir_at = h.dir_at;
   word_at = h.word_at;
@@ -36,8 +37,10 @@ found_wider m ram c pse steps t page e h = record {
   words = (read_more steps t (h.dir_at / 4096) h.words.0, read_more steps t (h.word_at / 4096) h.words.1);
 }
 
-found_on : WordsStayFound → (m : Setting) (steps : List Taken) (t : Taken) (c : ℕ) (page : ℕ) (e : Entry) → step_of m t.before t.set ≡ Went t.report t.after → 4096 * m.frames ≤ length t.before.ram → page < 2 ^ 20 → Unwritten (steps ++ t ∷ [])
-    → pse_of t.after.cpu ≡ pse_of t.before.cpu → IsFoundBy t.before.ram m.frames c (pse_of t.before.cpu) (was_read steps) page e → IsFoundBy t.after.ram m.frames c (pse_of t.after.cpu) (was_read (steps ++ t ∷ [])) page e
+found_on : WordsStayFound → (m : Setting) (steps : List Taken) (t : Taken) (c : ℕ) (page : ℕ) (e : Entry)
+    → step_of m t.before t.set ≡ Went t.report t.after → 4096 * m.frames ≤ length t.before.ram → page < 2 ^ 20 → Unwritten (steps ++ t ∷ [])
+    → pse_of t.after.cpu ≡ pse_of t.before.cpu → IsFoundBy t.before.ram m.frames c (pse_of t.before.cpu) (was_read steps) page e
+    → IsFoundBy t.after.ram m.frames c (pse_of t.after.cpu) (was_read (steps ++ t ∷ [])) page e
 found_on law m steps t c page e is room small u pse h =
     subst (λ p. IsFoundBy t.after.ram m.frames c p (was_read (steps ++ t ∷ [])) page e) (sym pse)
     (law m t.before t.set t.report t.after c (pse_of t.before.cpu) (was_read (steps ++ t ∷ [])) page e room small is
@@ -47,16 +50,23 @@ found_on law m steps t c page e is room small u pse h =
 same_pse : (a b : State) → a.cpu.cr4 ≡ b.cpu.cr4 → pse_of a.cpu ≡ pse_of b.cpu
 same_pse a b e = ap (λ (w : ℕ). has w 16) e
 
-by_split : WordsStayFound → (m : Setting) (steps : List Taken) (t : Taken) → step_of m t.before t.set ≡ Went t.report t.after → 4096 * m.frames ≤ length t.before.ram
+by_split : WordsStayFound → (m : Setting) (steps : List Taken) (t : Taken) → step_of m t.before t.set ≡ Went t.report t.after
+    → 4096 * m.frames ≤ length t.before.ram
     → (loads_root t ≡ true → Unwritten (steps ++ t ∷ []) → AllFound m t.before t.before.cpu.cr3 steps t.set) → IsFoundStill m steps t.before
-    → (c : ℕ) (old : List Taken) (left : Taken) (since : List Taken) → IsOwed m (steps ++ t ∷ []) t.after c old left since → Split steps t old left since → AllFound m t.after c (steps ++ t ∷ []) left.set
+    → (c : ℕ) (old : List Taken) (left : Taken) (since : List Taken) → IsOwed m (steps ++ t ∷ []) t.after c old left since
+    → Split steps t old left since → AllFound m t.after c (steps ++ t ∷ []) left.set
 by_split law m steps t is room loads h c old left since o (At_end at at_t none) page e there =
     let leaving : leaves c t ≡ true = subst (λ (u : Taken). leaves c u ≡ true) at_t o.is_left in
     let value : t.before.cpu.cr3 ≡ c = eqb-true t.before.cpu.cr3 c (and_parts (loads_root t) (t.before.cpu.cr3 == c) leaving).1 in
-    let pse : pse_of t.after.cpu ≡ pse_of t.before.cpu = same_pse t.after t.before (o.same_now.1 ∙ ap (λ (u : Taken). u.before.cpu.cr4) at_t) in
+    let pse : pse_of t.after.cpu ≡ pse_of t.before.cpu =
+    same_pse t.after t.before (o.same_now.1 ∙ ap (λ (u : Taken). u.before.cpu.cr4) at_t) in
     let found : (page < 2 ^ 20) × IsFoundBy t.before.ram m.frames t.before.cpu.cr3 (pse_of t.before.cpu) (was_read steps) page e =
-    loads (and_parts (loads_root t) (t.before.cpu.cr3 == c) leaving).0 o.unwritten page e (subst (λ (u : Taken). get u.set page ≡ Some e) at_t there) in
-    (found.0, found_on law m steps t c page e is room found.0 o.unwritten pse (subst (λ v. IsFoundBy t.before.ram m.frames v (pse_of t.before.cpu) (was_read steps) page e) value found.1))
+    loads (and_parts (loads_root t) (t.before.cpu.cr3 == c) leaving).0 o.unwritten page e
+    (subst (λ (u : Taken). get u.set page ≡ Some e) at_t there) in (
+      found.0,
+      found_on law m steps t c page e is room found.0 o.unwritten pse
+          (subst (λ v. IsFoundBy t.before.ram m.frames v (pse_of t.before.cpu) (was_read steps) page e) value found.1),
+    )
 by_split law m steps t is room loads h c old left since o (Within before split at) page e there =
     let p = owed_front m steps t t.after c old left since before o split at in
     let pse : pse_of t.after.cpu ≡ pse_of t.before.cpu = same_pse t.after t.before (o.same_now.1 ∙ sym p.same_now.1) in
@@ -65,4 +75,7 @@ by_split law m steps t is room loads h c old left since o (Within before split a
 
 pub found_goes_on : WordsStayFound → FoundGoesOn
 found_goes_on law m steps t is room loads h =
-    record { each = λ c old left since o. by_split law m steps t is room loads h c old left since o (split_of steps t old left since o.split) }
+    record {
+      each = λ c old left since o. by_split law m steps t is room loads h c old left since o
+          (split_of steps t old left since o.split);
+    }

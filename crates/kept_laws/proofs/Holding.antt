@@ -31,7 +31,8 @@ first false x y e = absurd (let f : false ≡ true = e in cc)
 
 pub held_stays : HeldStays
 held_stays steps t b plain =
-    ap (λ (l : List Taken). held_by l b.set) (last_first steps t) ∙ either (loads_root t) (set_left t.after.cpu.cr3 (t ∷ reverse steps)) b.set plain
+    ap (λ (l : List Taken). held_by l b.set) (last_first steps t)
+    ∙ either (loads_root t) (set_left t.after.cpu.cr3 (t ∷ reverse steps)) b.set plain
 
 -- steps that leave other values are passed over
 skipped : (c : ℕ) (since rest : List Taken) → All (λ u. leaves c u ≡ false) since → set_left c (reverse since ++ rest) ≡ set_left c rest
@@ -45,7 +46,8 @@ skipped c (u ∷ us) rest h =
 turned : (old : List Taken) (left : Taken) (since : List Taken) → reverse (old ++ left ∷ since) ≡ reverse since ++ left ∷ reverse old
 turned old left since =
     reverse-append old (left ∷ since)
-    ∙ (ap (λ (l : List Taken). l ++ reverse old) (reverse-append (left ∷ []) since) ∙ append_assoc (reverse since) (left ∷ []) (reverse old))
+    ∙ (ap (λ (l : List Taken). l ++ reverse old) (reverse-append (left ∷ []) since) ∙ append_assoc (reverse since)
+    (left ∷ []) (reverse old))
 
 pub held_back : HeldBack
 held_back steps t b old left since loads split is_left is_last =

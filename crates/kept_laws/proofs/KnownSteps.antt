@@ -45,7 +45,8 @@ known_still m steps b v v' kept stay k = record {
 
 -- ---- after a step
 
-next_over : NextIsKept → (m : Setting) (steps : List Taken) (t : Taken) (kept : Set) → IsReadyFor m steps t t.after kept → IsNextKept m (steps ++ t ∷ []) t.after kept
+next_over : NextIsKept → (m : Setting) (steps : List Taken) (t : Taken) (kept : Set) → IsReadyFor m steps t t.after kept
+    → IsNextKept m (steps ++ t ∷ []) t.after kept
 next_over law m steps t kept r set h = law m steps t t.after set kept r h
 
 -- what a step without a load left is kept, or nothing where the step changed CR0.WP
@@ -54,18 +55,24 @@ IsLeft t kept = loads_root t ≡ false → (kept ≡ t.after.set) ⊎ ((kept ≡
 
 -- and after a load what is owed with the loaded value
 abbrev IsBack : Setting → List Taken → Taken → Set → Type 0
-IsBack m steps t kept = loads_root t ≡ true → (old : List Taken) (left : Taken) (since : List Taken) → IsOwed m (steps ++ t ∷ []) t.after t.after.cpu.cr3 old left since → ComesFrom left kept
+IsBack m steps t kept = loads_root t ≡ true → (old : List Taken) (left : Taken) (since : List Taken)
+    → IsOwed m (steps ++ t ∷ []) t.after t.after.cpu.cr3 old left since → ComesFrom left kept
 
 -- so the rule lets it be left
-left_over : (m : Setting) (steps : List Taken) (t : Taken) (kept : Set) → IsLeft t kept → IsBack m steps t kept → IsLeftBehind m (steps ++ t ∷ []) t.after kept
-left_over m steps t kept left back = subst (λ (l : List Taken). KeptBehind false m (steps ++ t ∷ []) l t.after kept) (sym (last_first steps t)) (by (loads_root t) refl)
+left_over : (m : Setting) (steps : List Taken) (t : Taken) (kept : Set) → IsLeft t kept → IsBack m steps t kept
+    → IsLeftBehind m (steps ++ t ∷ []) t.after kept
+left_over m steps t kept left back =
+    subst (λ (l : List Taken). KeptBehind false m (steps ++ t ∷ []) l t.after kept) (sym (last_first steps t)) (by (loads_root t) refl)
   where
     stays : (kept ≡ t.after.set) ⊎ ((kept ≡ empty) × (changes_protection t ≡ true)) → Stays false t t.after kept
     stays (inl same) = inl same
     stays (inr lost) = inr (lost.0, inr lost.1)
 
     by : (b : Bool) → loads_root t ≡ b → KeptBehind false m (steps ++ t ∷ []) (t ∷ reverse steps) t.after kept
-    by true loads = inl (loads, λ old u since h quiet. (back loads old u since (returned m (steps ++ t ∷ []) t.after t.after.cpu.cr3 old u since h)).has)
+    by true loads = inl (
+      loads,
+      λ old u since h quiet. (back loads old u since (returned m (steps ++ t ∷ []) t.after t.after.cpu.cr3 old u since h)).has,
+    )
     by false plain = inr (plain, stays (left plain))
 
 -- what the law of the next step asks of the memory that a load left
@@ -98,7 +105,8 @@ over goes_on law m steps t v kept step finds found remembered left back =
       });
     }
 
-past_by : FoundGoesOn → NextIsKept → (m : Setting) (steps : List Taken) (t : Taken) (v : Sight) (kept : Set) → IsLaidOut m t → loads_root t ≡ false
+past_by : FoundGoesOn → NextIsKept → (m : Setting) (steps : List Taken) (t : Taken) (v : Sight) (kept : Set) → IsLaidOut m t
+    → loads_root t ≡ false
     → t.after.cpu.cr3 ≡ t.before.cpu.cr3 → IsKnown m steps t.before v kept → IsKnown m (steps ++ t ∷ []) t.after v t.after.set
 past_by goes_on law m steps t v kept laid plain value k =
     over goes_on law m steps t v t.after.set laid (λ e u. clash (loads_root t) e plain) k.found
@@ -107,7 +115,12 @@ past_by goes_on law m steps t v kept laid plain value k =
 pub known_quiet : FoundGoesOn → NextIsKept → KnownQuiet
 known_quiet goes_on law m steps t v kept past k =
     past_by goes_on law m steps t v kept
-    (record { went = past.went; room = past.room; room_after = λ e. clash (loads_root t) e past.plain; bytes = λ e. clash (loads_root t) e past.plain })
+    (record {
+      went = past.went;
+      room = past.room;
+      room_after = λ e. clash (loads_root t) e past.plain;
+      bytes = λ e. clash (loads_root t) e past.plain;
+    })
     past.plain past.value k
 
 -- ---- the rules
@@ -195,7 +208,8 @@ known_on goes_on law m steps t v v' kept step finds o k = by (loads_root t) refl
     through : loads_root t ≡ false → RulesStay t ⊎ (RulesStay t → ⊥) → IsKnown m (steps ++ t ∷ []) t.after v' (entries_of v'.slots)
     through plain (inl stay) =
         let h = o.through plain stay in
-        known (still_remembers m (steps ++ t ∷ []) t.after o.between v' h.0 (told plain)) (λ e. inl h.1) (λ e old u since w. clash (loads_root t) e plain)
+        known (still_remembers m (steps ++ t ∷ []) t.after o.between v' h.0 (told plain)) (λ e. inl h.1)
+        (λ e old u since w. clash (loads_root t) e plain)
     through plain (inr lost) =
         let h = o.lost plain lost in
         known (emptied m steps t o.between v' plain lost h.0 (told plain)) (left_empty m t (entries_of v'.slots) step lost h.1)

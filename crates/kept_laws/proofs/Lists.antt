@@ -11,7 +11,8 @@ use Rattle.kept_laws.specs.Remembered.{was_read, Unwritten}
 -- ---- splits
 
 -- one more after a split
-pub split_more : (l : List Taken) (x : Taken) (a : List Taken) (y : Taken) (b : List Taken) → l ≡ a ++ y ∷ b → l ++ x ∷ [] ≡ a ++ y ∷ (b ++ x ∷ [])
+pub split_more : (l : List Taken) (x : Taken) (a : List Taken) (y : Taken) (b : List Taken) → l ≡ a ++ y ∷ b → l ++ x ∷ [] ≡ a
+    ++ y ∷ (b ++ x ∷ [])
 split_more l x a y b e = ap (λ (k : List Taken). k ++ x ∷ []) e ∙ append_assoc a (y ∷ b) (x ∷ [])
 
 -- ---- all of a list
@@ -33,7 +34,8 @@ pub any_left : {X : Type 0} (test : X → Bool) (xs ys : List X) → list_any te
 any_left test [] ys h = absurd (let e : false ≡ true = h in cc)
 any_left test (x ∷ xs) ys h = by (test x) h (any_left test xs ys)
   where
-    by : (b : Bool) → (b || list_any test xs) ≡ true → (list_any test xs ≡ true → list_any test (xs ++ ys) ≡ true) → (b || list_any test (xs ++ ys)) ≡ true
+    by : (b : Bool) → (b || list_any test xs) ≡ true → (list_any test xs ≡ true → list_any test (xs ++ ys) ≡ true)
+        → (b || list_any test (xs ++ ys)) ≡ true
     by true h k = refl
     by false h k = k h
 
@@ -45,11 +47,13 @@ any_right test (x ∷ xs) ys h = by (test x) (any_right test xs ys h)
     by true h = refl
     by false h = h
 
-any_over : {X : Type 0} (test : X → Bool) (xs ys zs : List X) → (list_any test ys ≡ true → list_any test zs ≡ true) → list_any test (xs ++ ys) ≡ true → list_any test (xs ++ zs) ≡ true
+any_over : {X : Type 0} (test : X → Bool) (xs ys zs : List X) → (list_any test ys ≡ true → list_any test zs ≡ true)
+    → list_any test (xs ++ ys) ≡ true → list_any test (xs ++ zs) ≡ true
 any_over test [] ys zs f h = f h
 any_over test (x ∷ xs) ys zs f h = by (test x) (any_over test xs ys zs f) h
   where
-    by : (b : Bool) → (list_any test (xs ++ ys) ≡ true → list_any test (xs ++ zs) ≡ true) → (b || list_any test (xs ++ ys)) ≡ true → (b || list_any test (xs ++ zs)) ≡ true
+    by : (b : Bool) → (list_any test (xs ++ ys) ≡ true → list_any test (xs ++ zs) ≡ true) → (b || list_any test (xs ++ ys)) ≡ true
+        → (b || list_any test (xs ++ zs)) ≡ true
     by true k h = refl
     by false k h = k h
 
@@ -76,5 +80,7 @@ pub roots_more : (xs : List Taken) (t : Taken) → roots_in (xs ++ t ∷ []) ≡
 roots_more [] t = append_nil (root_in t)
 roots_more (x ∷ xs) t = ap (λ (l : List ℕ). root_in x ++ l) (roots_more xs t) ∙ sym (append_assoc (root_in x) (roots_in xs) (root_in t))
 
-pub loaded_more : (xs : List Taken) (t : Taken) (v : ℕ) → is_member eqb (roots_in xs) v ≡ true → is_member eqb (roots_in (xs ++ t ∷ [])) v ≡ true
-loaded_more xs t v h = subst (λ (l : List ℕ). is_member eqb l v ≡ true) (sym (roots_more xs t)) (any_left (eqb v) (roots_in xs) (root_in t) h)
+pub loaded_more : (xs : List Taken) (t : Taken) (v : ℕ) → is_member eqb (roots_in xs) v ≡ true
+    → is_member eqb (roots_in (xs ++ t ∷ [])) v ≡ true
+loaded_more xs t v h =
+    subst (λ (l : List ℕ). is_member eqb l v ≡ true) (sym (roots_more xs t)) (any_left (eqb v) (roots_in xs) (root_in t) h)

@@ -73,7 +73,8 @@ record IsSettled (m : Setting) (steps : List Taken) (t : Taken) (v : Sight) : Ty
   noted_read : (frame : ℕ) → v.read_from frame ≡ true → was_read (steps ++ t ∷ []) frame ≡ true
   all_read : AllRead (steps ++ t ∷ []) v.other_roots
   unmarked : Unwritten (steps ++ t ∷ []) → v.stale ≡ false
-  each : (c : ℕ) (old : List Taken) (left : Taken) (since : List Taken) → (c ≡ t.before.cpu.cr3 → ⊥) → Unwritten (steps ++ t ∷ []) → IsOwed m steps t.before c old left since
+  each : (c : ℕ) (old : List Taken) (left : Taken) (since : List Taken) → (c ≡ t.before.cpu.cr3 → ⊥) → Unwritten (steps ++ t ∷ [])
+      → IsOwed m steps t.before c old left since
       → IsThere c left (roots_in (left ∷ since)) v.other_roots × (is_member eqb (roots_in (left ∷ since)) t.before.cpu.cr3 ≡ true)
 
 noted_by : (m : Setting) (steps : List Taken) (t : Taken) (v : Sight) → IsRemembered m steps t.before v
@@ -81,7 +82,8 @@ noted_by : (m : Setting) (steps : List Taken) (t : Taken) (v : Sight) → IsReme
 noted_by m steps t v r frame (inl e) = read_more steps t frame (r.noted_read frame e)
 noted_by m steps t v r frame (inr e) = read_last steps t frame e
 
-settled : (m : Setting) (steps : List Taken) (t : Taken) (v v' : Sight) → IsTold t v v' → IsRemembered m steps t.before v → IsSettled m steps t v'
+settled : (m : Setting) (steps : List Taken) (t : Taken) (v v' : Sight) → IsTold t v v' → IsRemembered m steps t.before v
+    → IsSettled m steps t v'
 settled m steps t v v' told r =
     let spared : List OtherRoot = all_spared t.report.wrote v.other_roots in
     let alike = lose_alike told.frames spared v'.other_roots told.others in
@@ -93,11 +95,16 @@ settled m steps t v v' told r =
       all_read = alike_read (steps ++ t ∷ []) spared v'.other_roots alike (filter_read _ (steps ++ t ∷ []) v.other_roots more);
       unmarked = λ u. false_from_ne_true v'.stale (λ e. never_marked u (told.marks e));
       each = λ c old left since ne u o.
-          let h = r.each c old left since ne o in
-          (alike_there c left (roots_in (left ∷ since)) spared v'.other_roots alike (subst (IsThere c left (roots_in (left ∷ since))) (sym (all_stay (steps ++ t ∷ []) t.report.wrote v.other_roots more (u steps t [] refl))) h.0), h.1);
+          let h = r.each c old left since ne o in (
+            alike_there c left (roots_in (left ∷ since)) spared v'.other_roots alike
+                (subst (IsThere c left (roots_in (left ∷ since)))
+                (sym (all_stay (steps ++ t ∷ []) t.report.wrote v.other_roots more (u steps t [] refl))) h.0),
+            h.1,
+          );
     }
   where
-    never_marked : Unwritten (steps ++ t ∷ []) → (v.stale ≡ true) ⊎ ((frame : ℕ) × Contains t.report.wrote frame × IsNotedBy v.read_from t frame) → ⊥
+    never_marked : Unwritten (steps ++ t ∷ []) → (v.stale ≡ true)
+        ⊎ ((frame : ℕ) × Contains t.report.wrote frame × IsNotedBy v.read_from t frame) → ⊥
     never_marked u (inl e) = clash v.stale e (r.unmarked (unwritten_front steps t u))
     never_marked u (inr k) =
         clash (was_read (steps ++ t ∷ []) k.0) (noted_by m steps t v r k.0 k.2)
@@ -106,8 +113,10 @@ settled m steps t v v' told r =
 -- ---- a step that doesn't load CR3
 
 -- what was loaded from a step on is loaded with one step more
-wider : (left t : Taken) (before since : List Taken) → since ≡ before ++ t ∷ [] → (v : ℕ) → is_member eqb (roots_in (left ∷ before)) v ≡ true → is_member eqb (roots_in (left ∷ since)) v ≡ true
-wider left t before since is v h = subst (λ (l : List Taken). is_member eqb (roots_in (left ∷ l)) v ≡ true) (sym is) (loaded_more (left ∷ before) t v h)
+wider : (left t : Taken) (before since : List Taken) → since ≡ before ++ t ∷ [] → (v : ℕ)
+    → is_member eqb (roots_in (left ∷ before)) v ≡ true → is_member eqb (roots_in (left ∷ since)) v ≡ true
+wider left t before since is v h =
+    subst (λ (l : List Taken). is_member eqb (roots_in (left ∷ l)) v ≡ true) (sym is) (loaded_more (left ∷ before) t v h)
 
 through : (m : Setting) (steps : List Taken) (t : Taken) (v : Sight) → loads_root t ≡ false → t.after.cpu.cr3 ≡ t.before.cpu.cr3
     → IsSettled m steps t v → (c : ℕ) (old : List Taken) (left : Taken) (since : List Taken) → (c ≡ t.after.cpu.cr3 → ⊥)
@@ -116,7 +125,8 @@ through : (m : Setting) (steps : List Taken) (t : Taken) (v : Sight) → loads_r
 through m steps t v plain same s c old left since ne o (At_end at is none) =
     clash (leaves c left) o.is_left (subst (λ (u : Taken). leaves c u ≡ false) (sym is) (through_leaves c t plain))
 through m steps t v plain same s c old left since ne o (Within before split is) =
-    let h = s.each c old left before (λ e. ne (e ∙ sym same)) o.unwritten (owed_front m steps t t.after c old left since before o split is) in (
+    let h =
+    s.each c old left before (λ e. ne (e ∙ sym same)) o.unwritten (owed_front m steps t t.after c old left since before o split is) in (
       there_wider c left (roots_in (left ∷ before)) (roots_in (left ∷ since)) v.other_roots (wider left t before since is) h.0,
       subst (λ (x : ℕ). is_member eqb (roots_in (left ∷ since)) x ≡ true) (sym same) (wider left t before since is t.before.cpu.cr3 h.1),
     )
@@ -170,7 +180,8 @@ put_of_one c v h k = by v.stale
     by true = k
     by false = (h, k)
 
-put_read : (steps : List Taken) (c : ℕ) (v : Sight) → ((frame : ℕ) → v.read_from frame ≡ true → was_read steps frame ≡ true) → AllRead steps v.other_roots → AllRead steps (put_under (Some c) v)
+put_read : (steps : List Taken) (c : ℕ) (v : Sight) → ((frame : ℕ) → v.read_from frame ≡ true → was_read steps frame ≡ true)
+    → AllRead steps v.other_roots → AllRead steps (put_under (Some c) v)
 put_read steps c v h k = by v.stale
   where
     by : (b : Bool) → AllRead steps (put_by (Some c) b v.read_from v.slots v.other_roots)
@@ -178,7 +189,8 @@ put_read steps c v h k = by v.stale
     by false = (h, k)
 
 -- a step that loads CR3 loads the value that it has after it
-loaded_last : (left t : Taken) (before : List Taken) → loads_root t ≡ true → is_member eqb (roots_in (left ∷ before ++ t ∷ [])) t.after.cpu.cr3 ≡ true
+loaded_last : (left t : Taken) (before : List Taken) → loads_root t ≡ true → is_member eqb (roots_in (left ∷ before ++ t ∷ []))
+    t.after.cpu.cr3 ≡ true
 loaded_last left t before loads =
     subst (λ (l : List ℕ). is_member eqb l t.after.cpu.cr3 ≡ true) (sym (roots_more (left ∷ before) t))
     (any_right (eqb t.after.cpu.cr3) (roots_in (left ∷ before)) (root_in t) (own t loads))
@@ -210,7 +222,8 @@ put_all t v = put_under (Some t.before.cpu.cr3) v
 
 -- what was owed for another value before the load is among all
 put_there : (m : Setting) (steps : List Taken) (t : Taken) (v : Sight) → loads_root t ≡ true → IsSettled m steps t v
-    → (c : ℕ) (old : List Taken) (left : Taken) (since before : List Taken) → IsOwed m (steps ++ t ∷ []) t.after c old left since → steps ≡ old ++ left ∷ before → since ≡ before ++ t ∷ []
+    → (c : ℕ) (old : List Taken) (left : Taken) (since before : List Taken) → IsOwed m (steps ++ t ∷ []) t.after c old left since
+    → steps ≡ old ++ left ∷ before → since ≡ before ++ t ∷ []
     → IsThere c left (roots_in (left ∷ since)) (put_all t v)
 put_there m steps t v loads s c old left since before o split is =
     let ne : (t.before.cpu.cr3 ≡ c → ⊥) = not_left c t loads (last_leaves m steps t t.after c old left since before o is) in
@@ -226,13 +239,16 @@ own_there m steps t v s has c loaded is u =
     subst (IsThere c t loaded) (sym (put t.before.cpu.cr3 v (s.unmarked u))) (inl (left_is c t is, has))
 
 -- either way it is among all, and the loaded value was loaded
-all_there : (m : Setting) (steps : List Taken) (t : Taken) (v : Sight) → loads_root t ≡ true → IsSettled m steps t v → ComesFrom t (entries_of v.slots)
-    → (c : ℕ) (old : List Taken) (left : Taken) (since : List Taken) → IsOwed m (steps ++ t ∷ []) t.after c old left since → Split steps t old left since
+all_there : (m : Setting) (steps : List Taken) (t : Taken) (v : Sight) → loads_root t ≡ true → IsSettled m steps t v
+    → ComesFrom t (entries_of v.slots)
+    → (c : ℕ) (old : List Taken) (left : Taken) (since : List Taken) → IsOwed m (steps ++ t ∷ []) t.after c old left since
+    → Split steps t old left since
     → IsThere c left (roots_in (left ∷ since)) (put_all t v) × (is_member eqb (roots_in (left ∷ since)) t.after.cpu.cr3 ≡ true)
 all_there m steps t v loads s has c old left since o (At_end at is none) = (
   subst (λ (u : Taken). IsThere c u (roots_in (left ∷ since)) (put_all t v)) (sym is)
       (own_there m steps t v s has c (roots_in (left ∷ since)) (subst (λ (u : Taken). leaves c u ≡ true) is o.is_left) o.unwritten),
-  subst (λ (l : List Taken). is_member eqb (roots_in (left ∷ l)) t.after.cpu.cr3 ≡ true) (sym none) (subst (λ (u : Taken). is_member eqb (roots_in (u ∷ [])) t.after.cpu.cr3 ≡ true) (sym is) (loaded_own t loads)),
+  subst (λ (l : List Taken). is_member eqb (roots_in (left ∷ l)) t.after.cpu.cr3 ≡ true) (sym none)
+      (subst (λ (u : Taken). is_member eqb (roots_in (u ∷ [])) t.after.cpu.cr3 ≡ true) (sym is) (loaded_own t loads)),
 )
 all_there m steps t v loads s has c old left since o (Within before split is) = (
   put_there m steps t v loads s c old left since before o split is,
@@ -247,7 +263,8 @@ loads_remember m steps t v between v' loads r told has loaded =
     let ones = put_of_one t.before.cpu.cr3 between s.other s.of_one in
     let read = put_read (steps ++ t ∷ []) t.before.cpu.cr3 between s.noted_read s.all_read in
     let alike = same_alike (staying w all) v'.other_roots loaded.others in
-    let slots : entries_of v'.slots ≡ entries_of (coming w all).slots = entries_of-same (coming w all).slots v'.slots loaded.present.slots in (
+    let slots : entries_of v'.slots ≡ entries_of (coming w all).slots =
+    entries_of-same (coming w all).slots v'.slots loaded.present.slots in (
       record {
         other = alike_absent w (staying w all) v'.other_roots alike (staying_absent w all ones);
         of_one = alike_of_one (staying w all) v'.other_roots alike (staying_of_one w all ones);
@@ -255,8 +272,11 @@ loads_remember m steps t v between v' loads r told has loaded =
         all_read = alike_read (steps ++ t ∷ []) (staying w all) v'.other_roots alike (staying_read (steps ++ t ∷ []) w all read);
         unmarked = λ u. loaded.unmarked;
         each = λ c old left since ne o.
-            let h = all_there m steps t between loads s has c old left since o (split_of steps t old left since o.split) in
-            (alike_there c left (roots_in (left ∷ since)) (staying w all) v'.other_roots alike (staying_there w c left (roots_in (left ∷ since)) all (λ e. ne (sym e)) h.1 o.few ones h.0), h.1);
+            let h = all_there m steps t between loads s has c old left since o (split_of steps t old left since o.split) in (
+              alike_there c left (roots_in (left ∷ since)) (staying w all) v'.other_roots alike
+                  (staying_there w c left (roots_in (left ∷ since)) all (λ e. ne (sym e)) h.1 o.few ones h.0),
+              h.1,
+            );
       },
       λ old left since o.
           let h = all_there m steps t between loads s has w old left since o (split_of steps t old left since o.split) in
@@ -264,7 +284,8 @@ loads_remember m steps t v between v' loads r told has loaded =
     )
 
 -- what the rule asks after a load is owed before the next step
-pub returned : (m : Setting) (earlier : List Taken) (now : State) (c : ℕ) (old : List Taken) (left : Taken) (since : List Taken) → Returns m earlier now c old left since → IsOwed m earlier now c old left since
+pub returned : (m : Setting) (earlier : List Taken) (now : State) (c : ℕ) (old : List Taken) (left : Taken) (since : List Taken)
+    → Returns m earlier now c old left since → IsOwed m earlier now c old left since
 returned m earlier now c old left since h = record {
   split = h.split;
   is_left = h.is_left;

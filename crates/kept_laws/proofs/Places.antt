@@ -21,7 +21,8 @@ abbrev pub AreAlike : (olds news : List OtherRoot) → Type 0
 AreAlike [] [] = Unit {0}
 AreAlike [] (b ∷ ys) = ⊥
 AreAlike (a ∷ xs) [] = ⊥
-AreAlike (a ∷ xs) (b ∷ ys) = (b.cr3 ≡ a.cr3) × ((f : ℕ) → b.tables f ≡ a.tables f) × (entries_of b.slots ≡ entries_of a.slots) × AreAlike xs ys
+AreAlike (a ∷ xs) (b ∷ ys) =
+    (b.cr3 ≡ a.cr3) × ((f : ℕ) → b.tables f ≡ a.tables f) × (entries_of b.slots ≡ entries_of a.slots) × AreAlike xs ys
 
 pub same_alike : (xs ys : List OtherRoot) → AreSame xs ys → AreAlike xs ys
 same_alike [] [] h = tt
@@ -33,7 +34,8 @@ pub lose_alike : (frames : List ℕ) (xs ys : List OtherRoot) → LoseWrites fra
 lose_alike frames [] [] h = tt
 lose_alike frames [] (b ∷ ys) h = h
 lose_alike frames (a ∷ xs) [] h = h
-lose_alike frames (a ∷ xs) (b ∷ ys) h = (h.0.cr3, h.0.tables, entries_of-barred a.slots b.slots frames h.0.slots, lose_alike frames xs ys h.1)
+lose_alike frames (a ∷ xs) (b ∷ ys) h =
+    (h.0.cr3, h.0.tables, entries_of-barred a.slots b.slots frames h.0.slots, lose_alike frames xs ys h.1)
 
 pub alike_absent : (v : ℕ) (xs ys : List OtherRoot) → AreAlike xs ys → IsAbsent v xs → IsAbsent v ys
 alike_absent v [] [] h k = tt
@@ -45,7 +47,8 @@ pub alike_of_one : (xs ys : List OtherRoot) → AreAlike xs ys → AreOfOne xs �
 alike_of_one [] [] h k = tt
 alike_of_one [] (b ∷ ys) h k = absurd h
 alike_of_one (a ∷ xs) [] h k = tt
-alike_of_one (a ∷ xs) (b ∷ ys) h k = (alike_absent b.cr3 xs ys h.3 (subst (λ (v : ℕ). IsAbsent v xs) (sym h.0) k.0), alike_of_one xs ys h.3 k.1)
+alike_of_one (a ∷ xs) (b ∷ ys) h k =
+    (alike_absent b.cr3 xs ys h.3 (subst (λ (v : ℕ). IsAbsent v xs) (sym h.0) k.0), alike_of_one xs ys h.3 k.1)
 
 pub alike_read : (steps : List Taken) (xs ys : List OtherRoot) → AreAlike xs ys → AllRead steps xs → AllRead steps ys
 alike_read steps [] [] h k = tt
@@ -53,7 +56,8 @@ alike_read steps [] (b ∷ ys) h k = absurd h
 alike_read steps (a ∷ xs) [] h k = tt
 alike_read steps (a ∷ xs) (b ∷ ys) h k = (λ f e. k.0 f (sym (h.1 f) ∙ e), alike_read steps xs ys h.3 k.1)
 
-pub alike_there : (c : ℕ) (left : Taken) (loaded : List ℕ) (xs ys : List OtherRoot) → AreAlike xs ys → IsThere c left loaded xs → IsThere c left loaded ys
+pub alike_there : (c : ℕ) (left : Taken) (loaded : List ℕ) (xs ys : List OtherRoot) → AreAlike xs ys → IsThere c left loaded xs
+    → IsThere c left loaded ys
 alike_there c left loaded [] ys h k = absurd k
 alike_there c left loaded (a ∷ xs) [] h k = absurd h
 alike_there c left loaded (a ∷ xs) (b ∷ ys) h (inl k) =
@@ -94,7 +98,8 @@ more_read steps t (a ∷ xs) h = (λ f e. read_more steps t f (h.0 f e), more_re
 
 -- ---- where no frame of their tables was written all are spared
 
-none_of : (steps : List Taken) (test : ℕ → Bool) (wrote : List ℕ) → ((f : ℕ) → test f ≡ true → was_read steps f ≡ true) → All (λ frame. was_read steps frame ≡ false) wrote → list_any test wrote ≡ false
+none_of : (steps : List Taken) (test : ℕ → Bool) (wrote : List ℕ) → ((f : ℕ) → test f ≡ true → was_read steps f ≡ true)
+    → All (λ frame. was_read steps frame ≡ false) wrote → list_any test wrote ≡ false
 none_of steps test [] h k = refl
 none_of steps test (f ∷ fs) h k = by (test f) (h f) (none_of steps test fs h (All-tail (λ frame. was_read steps frame ≡ false) f fs k))
   where
@@ -102,7 +107,8 @@ none_of steps test (f ∷ fs) h k = by (test f) (h f) (none_of steps test fs h (
     by true g rest = clash (was_read steps f) (g refl) (All-head (λ frame. was_read steps frame ≡ false) f fs k)
     by false g rest = rest
 
-pub all_stay : (steps : List Taken) (wrote : List ℕ) (xs : List OtherRoot) → AllRead steps xs → All (λ frame. was_read steps frame ≡ false) wrote → all_spared wrote xs ≡ xs
+pub all_stay : (steps : List Taken) (wrote : List ℕ) (xs : List OtherRoot) → AllRead steps xs
+    → All (λ frame. was_read steps frame ≡ false) wrote → all_spared wrote xs ≡ xs
 all_stay steps wrote [] h k = refl
 all_stay steps wrote (a ∷ xs) h k = by (list_any a.tables wrote) (none_of steps a.tables wrote h.0 k) (all_stay steps wrote xs h.1 k)
   where
@@ -112,7 +118,8 @@ all_stay steps wrote (a ∷ xs) h k = by (list_any a.tables wrote) (none_of step
 
 -- ---- more values are loaded
 
-pub there_wider : (c : ℕ) (left : Taken) (loaded more : List ℕ) (xs : List OtherRoot) → ((v : ℕ) → is_member eqb loaded v ≡ true → is_member eqb more v ≡ true) → IsThere c left loaded xs → IsThere c left more xs
+pub there_wider : (c : ℕ) (left : Taken) (loaded more : List ℕ) (xs : List OtherRoot)
+    → ((v : ℕ) → is_member eqb loaded v ≡ true → is_member eqb more v ≡ true) → IsThere c left loaded xs → IsThere c left more xs
 there_wider c left loaded more [] h k = absurd k
 there_wider c left loaded more (a ∷ xs) h (inl k) = inl k
 there_wider c left loaded more (a ∷ xs) h (inr k) = inr (k.0, h a.cr3 k.1, there_wider c left loaded more xs h k.2)
@@ -152,7 +159,8 @@ but_none w (a ∷ xs) h = by (a.cr3 == w) refl (but_none w xs h.1)
     by true is k = subst (λ (v : ℕ). IsAbsent v xs) (eqb-true a.cr3 w is) h.0
     by false is k = (eqb-false a.cr3 w is, k)
 
-but_there : (w c : ℕ) (left : Taken) (loaded : List ℕ) (xs : List OtherRoot) → (w ≡ c → ⊥) → IsThere c left loaded xs → IsThere c left loaded (but_cr3 w xs)
+but_there : (w c : ℕ) (left : Taken) (loaded : List ℕ) (xs : List OtherRoot) → (w ≡ c → ⊥) → IsThere c left loaded xs
+    → IsThere c left loaded (but_cr3 w xs)
 but_there w c left loaded [] ne k = absurd k
 but_there w c left loaded (a ∷ xs) ne (inl k) = by (a.cr3 == w) refl
   where
@@ -197,14 +205,16 @@ record HaveSeen (c : ℕ) (loaded seen : List ℕ) (xs : List OtherRoot) : Type 
   pool : (q : ℕ) → is_member eqb seen q ≡ true → is_member eqb (but c loaded) q ≡ true
   absent : (q : ℕ) → is_member eqb seen q ≡ true → IsAbsent q xs
 
-not_seen : (c : ℕ) (loaded seen : List ℕ) (a : OtherRoot) (xs : List OtherRoot) → HaveSeen c loaded seen (a ∷ xs) → is_member eqb seen a.cr3 ≡ false
+not_seen : (c : ℕ) (loaded seen : List ℕ) (a : OtherRoot) (xs : List OtherRoot) → HaveSeen c loaded seen (a ∷ xs)
+    → is_member eqb seen a.cr3 ≡ false
 not_seen c loaded seen a xs h = by (is_member eqb seen a.cr3) refl
   where
     by : (b : Bool) → is_member eqb seen a.cr3 ≡ b → b ≡ false
     by true is = absurd ((h.absent a.cr3 is).0 refl)
     by false is = refl
 
-seen_more : (c : ℕ) (loaded seen : List ℕ) (a : OtherRoot) (xs : List OtherRoot) → HaveSeen c loaded seen (a ∷ xs) → IsAbsent a.cr3 xs → (a.cr3 ≡ c → ⊥) → is_member eqb loaded a.cr3 ≡ true → HaveSeen c loaded (a.cr3 ∷ seen) xs
+seen_more : (c : ℕ) (loaded seen : List ℕ) (a : OtherRoot) (xs : List OtherRoot) → HaveSeen c loaded seen (a ∷ xs) → IsAbsent a.cr3 xs
+    → (a.cr3 ≡ c → ⊥) → is_member eqb loaded a.cr3 ≡ true → HaveSeen c loaded (a.cr3 ∷ seen) xs
 unfolding IsDistinct
 seen_more c loaded seen a xs h alone ne here = record {
   distinct = (absent_apart seen a.cr3 (not_seen c loaded seen a xs h), h.distinct);
@@ -218,16 +228,23 @@ seen_more c loaded seen a xs h alone ne here = record {
   ];
 }
 
-take_there : (n c : ℕ) (left : Taken) (loaded seen : List ℕ) (xs : List OtherRoot) → length seen + n ≡ 8 → distinct_count eqb (but c loaded) ≤ 7 → HaveSeen c loaded seen xs → AreOfOne xs
+take_there : (n c : ℕ) (left : Taken) (loaded seen : List ℕ) (xs : List OtherRoot) → length seen + n ≡ 8
+    → distinct_count eqb (but c loaded) ≤ 7 → HaveSeen c loaded seen xs → AreOfOne xs
     → IsThere c left loaded xs → IsThere c left loaded (take n xs)
 take_there zero c left loaded seen xs room few h ones k =
     let p = no_more seen (but c loaded) h.distinct h.pool in absurd (omega (arith, p, few, room))
 take_there (suc n) c left loaded seen [] room few h ones k = absurd k
 take_there (suc n) c left loaded seen (a ∷ xs) room few h ones (inl k) = inl k
 take_there (suc n) c left loaded seen (a ∷ xs) room few h ones (inr k) =
-    inr (k.0, k.1, take_there n c left loaded (a.cr3 ∷ seen) xs (omega (arith, room)) few (seen_more c loaded seen a xs h ones.0 k.0 k.1) ones.1 k.2)
+    inr (
+      k.0,
+      k.1,
+      take_there n c left loaded (a.cr3 ∷ seen) xs (omega (arith, room)) few
+          (seen_more c loaded seen a xs h ones.0 k.0 k.1) ones.1 k.2,
+    )
 
-one_seen : (c w : ℕ) (loaded : List ℕ) (xs : List OtherRoot) → (w ≡ c → ⊥) → is_member eqb loaded w ≡ true → IsAbsent w xs → HaveSeen c loaded (w ∷ []) xs
+one_seen : (c w : ℕ) (loaded : List ℕ) (xs : List OtherRoot) → (w ≡ c → ⊥) → is_member eqb loaded w ≡ true → IsAbsent w xs
+    → HaveSeen c loaded (w ∷ []) xs
 unfolding IsDistinct
 one_seen c w loaded xs ne here alone = record {
   distinct = (tt, tt);
@@ -267,7 +284,8 @@ staying_read steps w xs h = by (of_cr3 w xs)
     by None = take_read steps 7 xs h
     by (Some a) = but_read steps w xs h
 
-pub staying_there : (w c : ℕ) (left : Taken) (loaded : List ℕ) (xs : List OtherRoot) → (w ≡ c → ⊥) → is_member eqb loaded w ≡ true → distinct_count eqb (but c loaded) ≤ 7 → AreOfOne xs
+pub staying_there : (w c : ℕ) (left : Taken) (loaded : List ℕ) (xs : List OtherRoot) → (w ≡ c → ⊥) → is_member eqb loaded w ≡ true
+    → distinct_count eqb (but c loaded) ≤ 7 → AreOfOne xs
     → IsThere c left loaded xs → IsThere c left loaded (staying w xs)
 staying_there w c left loaded xs ne here few ones k = by (of_cr3 w xs) refl
   where
@@ -275,7 +293,8 @@ staying_there w c left loaded xs ne here few ones k = by (of_cr3 w xs) refl
     by None is = take_there 7 c left loaded (w ∷ []) xs (omega arith) few (one_seen c w loaded xs ne here (none_absent w xs is)) ones k
     by (Some a) is = but_there w c left loaded xs ne k
 
-pub coming_there : (c : ℕ) (left : Taken) (loaded : List ℕ) (xs : List OtherRoot) → IsThere c left loaded xs → ComesFrom left (entries_of (coming c xs).slots)
+pub coming_there : (c : ℕ) (left : Taken) (loaded : List ℕ) (xs : List OtherRoot) → IsThere c left loaded xs
+    → ComesFrom left (entries_of (coming c xs).slots)
 coming_there c left loaded [] k = absurd k
 coming_there c left loaded (a ∷ xs) (inl k) = by (a.cr3 == c) (eq-eqb a.cr3 c k.0)
   where
@@ -284,7 +303,8 @@ coming_there c left loaded (a ∷ xs) (inl k) = by (a.cr3 == c) (eq-eqb a.cr3 c 
     by false e = clash true refl (sym e)
 coming_there c left loaded (a ∷ xs) (inr k) = by (a.cr3 == c) (ne_eqb a.cr3 c k.0) (coming_there c left loaded xs k.2)
   where
-    by : (b : Bool) → b ≡ false → ComesFrom left (entries_of (coming c xs).slots) → ComesFrom left (entries_of (or_begun c (cond b (Some a) (of_cr3 c xs))).slots)
+    by : (b : Bool) → b ≡ false → ComesFrom left (entries_of (coming c xs).slots)
+        → ComesFrom left (entries_of (or_begun c (cond b (Some a) (of_cr3 c xs))).slots)
     by true e rest = clash true refl e
     by false e rest = rest
 
@@ -295,10 +315,12 @@ coming_first a xs c e = by (a.cr3 == c) (eq-eqb a.cr3 c e)
     by true h = refl
     by false h = clash true refl (sym h)
 
-pub coming_read : (steps : List Taken) (c : ℕ) (xs : List OtherRoot) → AllRead steps xs → (frame : ℕ) → (coming c xs).tables frame ≡ true → was_read steps frame ≡ true
+pub coming_read : (steps : List Taken) (c : ℕ) (xs : List OtherRoot) → AllRead steps xs → (frame : ℕ) → (coming c xs).tables frame ≡ true
+    → was_read steps frame ≡ true
 coming_read steps c [] h frame e = absurd (let f : false ≡ true = e in cc)
 coming_read steps c (a ∷ xs) h frame e = by (a.cr3 == c) (coming_read steps c xs h.1 frame) e
   where
-    by : (b : Bool) → ((coming c xs).tables frame ≡ true → was_read steps frame ≡ true) → (or_begun c (cond b (Some a) (of_cr3 c xs))).tables frame ≡ true → was_read steps frame ≡ true
+    by : (b : Bool) → ((coming c xs).tables frame ≡ true → was_read steps frame ≡ true)
+        → (or_begun c (cond b (Some a) (of_cr3 c xs))).tables frame ≡ true → was_read steps frame ≡ true
     by true k e = h.0 frame e
     by false k e = k e

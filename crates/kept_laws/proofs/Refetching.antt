@@ -60,7 +60,8 @@ is_inside (b ∷ x) (suc at) h = let l = is_inside x at h in omega (arith, l)
 
 mark_same : (x : List ℕ) (at : ℕ) → AreBytes x → has (byte x at) 32 ≡ true → with_byte x at (bit_or (byte x at) 32) ≡ x
 mark_same x at fit h =
-    ap (with_byte x at) (has_them false (byte x at) (let l = byte_lt x at fit in omega (arith, l)) h (λ f. absurd (let g : false ≡ true = f in cc))) ∙ same_bytes x at (is_inside x at h)
+    ap (with_byte x at) (has_them false (byte x at) (let l = byte_lt x at fit in omega (arith, l)) h
+    (λ f. absurd (let g : false ≡ true = f in cc))) ∙ same_bytes x at (is_inside x at h)
 
 -- a walk that sets no flag leaves memory as it is
 flags_same : (x : List ℕ) (d t : ℕ) → AreBytes x → has (word32 x d) 32 ≡ true → has (word32 x t) 32 ≡ true → flagged x d t false ≡ x
@@ -73,7 +74,8 @@ flags_same x d t fit h k =
 -- the translations of a page are the same, or the one that is missing is what a walk finds
 abbrev pub AtPage : (ℕ → Bool) → Space → Set → ℕ → Type 0
 AtPage tables s T page =
-    (get s.set page ≡ get T page) ⊎ ((get s.set page ≡ None) × (e : Entry) × (get T page ≡ Some e) × IsFoundBy s.ram s.frames s.cr3 s.pse tables page e)
+    (get s.set page ≡ get T page)
+    ⊎ ((get s.set page ≡ None) × (e : Entry) × (get T page ≡ Some e) × IsFoundBy s.ram s.frames s.cr3 s.pse tables page e)
 
 -- the page is ready by the others too, in the same place
 pub record PageReady (s t : Space) (T : Set) (E : Earlier) (page : ℕ) (met : Touch × Space) : Type 0 where
@@ -89,11 +91,17 @@ abbrev seen : Space → ℕ → Space
 seen s page = record s { pages = s.pages + 1; visited = s.visited ++ page ∷ [] }
 
 -- by a walk in both
-both_walk : (s : Space) (T : Set) (Y : List ℕ) (E : Earlier) (page : ℕ) (d : Decision) → d.met ≡ Ready → PageReady s (settled (seen s page) page d).1 T E page (settled (other (seen s page) T Y E) page d)
+both_walk : (s : Space) (T : Set) (Y : List ℕ) (E : Earlier) (page : ℕ) (d : Decision) → d.met ≡ Ready
+    → PageReady s (settled (seen s page) page d).1 T E page (settled (other (seen s page) T Y E) page d)
 both_walk s T Y E page d e = record {
   set = with_entry T page d.entry;
   tables = Y ++ tables_read s.ram s.frames s.cr3 s.pse page;
-  is = ap (λ (m : Touch). (m, other (settled (seen s page) page d).1 (with_entry T page d.entry) (Y ++ tables_read s.ram s.frames s.cr3 s.pse page) E)) e;
+  is =
+      ap (λ (m : Touch). (
+        m,
+        other (settled (seen s page) page d).1 (with_entry T page d.entry)
+            (Y ++ tables_read s.ram s.frames s.cr3 s.pse page) E,
+      )) e;
   place_is = λ at. ap (λ o. place_by o at) (there T page d.entry ∙ sym (there s.set page d.entry));
   others = λ q ne. elsewhere T page q d.entry ne;
   ours = λ q ne. elsewhere s.set page q d.entry ne;
@@ -101,13 +109,24 @@ both_walk s T Y E page d e = record {
 }
 
 -- by the same entry in both
-both_entry : (s : Space) (T : Set) (Y : List ℕ) (E : Earlier) (page : ℕ) (barred : Bool) → get s.set page ≡ get T page → (cond {A = Touch × Space} barred (Stop stops.TextMapped, seen s page) (Ready, seen s page)).0 ≡ Ready
-    → PageReady s (cond {A = Touch × Space} barred (Stop stops.TextMapped, seen s page) (Ready, seen s page)).1 T E page (cond {A = Touch × Space} barred (Stop stops.TextMapped, other (seen s page) T Y E) (Ready, other (seen s page) T Y E))
+both_entry : (s : Space) (T : Set) (Y : List ℕ) (E : Earlier) (page : ℕ) (barred : Bool) → get s.set page ≡ get T page
+    → (cond {A = Touch × Space} barred (Stop stops.TextMapped, seen s page) (Ready, seen s page)).0 ≡ Ready
+    → PageReady s (cond {A = Touch × Space} barred (Stop stops.TextMapped, seen s page) (Ready, seen s page)).1 T E page
+    (cond {A = Touch × Space} barred (Stop stops.TextMapped, other (seen s page) T Y E) (Ready, other (seen s page) T Y E))
 both_entry s T Y E page true same e = absurd cc
 both_entry s T Y E page false same e =
-    record { set = T; tables = Y; is = refl; place_is = λ at. ap (λ o. place_by o at) (sym same); others = λ q ne. refl; ours = λ q ne. refl; visited = refl }
+    record {
+      set = T;
+      tables = Y;
+      is = refl;
+      place_is = λ at. ap (λ o. place_by o at) (sym same);
+      others = λ q ne. refl;
+      ours = λ q ne. refl;
+      visited = refl;
+    }
 
-same_page : (s : Space) (T : Set) (Y : List ℕ) (E : Earlier) (page at : ℕ) (access : Access) (o : Option Entry) → get s.set page ≡ get T page → (by_entry (seen s page) true page at access o).0 ≡ Ready
+same_page : (s : Space) (T : Set) (Y : List ℕ) (E : Earlier) (page at : ℕ) (access : Access) (o : Option Entry)
+    → get s.set page ≡ get T page → (by_entry (seen s page) true page at access o).0 ≡ Ready
     → PageReady s (by_entry (seen s page) true page at access o).1 T E page (by_entry (other (seen s page) T Y E) true page at access o)
 same_page s T Y E page at access None same e = both_walk s T Y E page (decided (tables_of (seen s page)) true page at access) e
 same_page s T Y E page at access (Some entry) same e = both_entry s T Y E page (is_barred s.mode true access.user page entry.frame) same e
@@ -123,26 +142,34 @@ found_word : (a b : Entry) (d t x y : ℕ) → Found a d t ≡ Found b x y → t
 found_word a b d t x y e = cc
 
 -- by a walk in one, by the entry that it finds in the other
-walk_entry : (tables : ℕ → Bool) (s : Space) (T : Set) (Y : List ℕ) (E : Earlier) (page at : ℕ) (access : Access) (e : Entry) → access.write ≡ false → AreBytes s.ram → get T page ≡ Some e
+walk_entry : (tables : ℕ → Bool) (s : Space) (T : Set) (Y : List ℕ) (E : Earlier) (page at : ℕ) (access : Access) (e : Entry)
+    → access.write ≡ false → AreBytes s.ram → get T page ≡ Some e
     → IsFoundBy s.ram s.frames s.cr3 s.pse tables page e → (d : Decision) → IsReadied (tables_of s) true page access d → d.met ≡ Ready
-    → PageReady s (settled (seen s page) page d).1 T E page (by_entry (other (seen s page) T Y E) true page at access (usable (get T page) access s.wp))
+    → PageReady s (settled (seen s page) page d).1 T E page
+    (by_entry (other (seen s page) T Y E) true page at access (usable (get T page) access s.wp))
 walk_entry tables s T Y E page at access e read fit there_is h d r met =
     let f : Found r.entry r.dir_at r.word_at ≡ Found (record e { dirty = h.dirty }) h.dir_at h.word_at = sym r.found ∙ h.found in
-    let entry_is : r.entry ≡ record e { dirty = h.dirty } = found_entry r.entry (record e { dirty = h.dirty }) r.dir_at r.word_at h.dir_at h.word_at f in
+    let entry_is : r.entry ≡ record e { dirty = h.dirty } =
+    found_entry r.entry (record e { dirty = h.dirty }) r.dir_at r.word_at h.dir_at h.word_at f in
     let granted : grants e access s.wp ≡ true = subst (λ (x : Entry). grants x access s.wp ≡ true) entry_is r.granted in
     let allowed : allows e access s.wp ≡ true = both (grants e access s.wp) (not access.write) e.dirty granted (ap not read) in
-    let used : usable (get T page) access s.wp ≡ Some e = ap (λ o. usable o access s.wp) there_is ∙ cond-true (allows e access s.wp) (Some e) None allowed in
+    let used : usable (get T page) access s.wp ≡ Some e =
+    ap (λ o. usable o access s.wp) there_is ∙ cond-true (allows e access s.wp) (Some e) None allowed in
     let page_is : r.entry.page ≡ page = found_page in
     let free : is_barred s.mode true access.user page e.frame ≡ false =
-    subst (λ (p : ℕ). is_barred s.mode true access.user p e.frame ≡ false) page_is (subst (λ (x : Entry). is_barred s.mode true access.user r.entry.page x.frame ≡ false) entry_is r.free) in
+    subst (λ (p : ℕ). is_barred s.mode true access.user p e.frame ≡ false) page_is
+    (subst (λ (x : Entry). is_barred s.mode true access.user r.entry.page x.frame ≡ false) entry_is r.free) in
     let ram_is : d.ram ≡ s.ram = ap (λ (x : Decision). x.ram) r.is ∙ memory in
     record {
       set = T;
       tables = Y;
       is = ap (by_entry (other (seen s page) T Y E) true page at access) used
-          ∙ (cond-false (is_barred s.mode true access.user page e.frame) (Stop stops.TextMapped, other (seen s page) T Y E) (Ready, other (seen s page) T Y E) free
+          ∙ (cond-false (is_barred s.mode true access.user page e.frame) (Stop stops.TextMapped, other (seen s page) T Y E)
+          (Ready, other (seen s page) T Y E) free
           ∙ ap (λ (m : List ℕ). (Ready, record (other (seen s page) T Y E) { ram = m })) (sym ram_is));
-      place_is = λ at. ap (λ o. place_by o at) there_is ∙ sym (ap (λ o. place_by o at) (there s.set page d.entry ∙ ap (λ (x : Decision). x.entry) r.is) ∙ ap (λ (x : Entry). x.frame * 4096 + at % 4096) entry_is);
+      place_is = λ at. ap (λ o. place_by o at) there_is
+          ∙ sym (ap (λ o. place_by o at) (there s.set page d.entry ∙ ap (λ (x : Decision). x.entry) r.is)
+          ∙ ap (λ (x : Entry). x.frame * 4096 + at % 4096) entry_is);
       others = λ q ne. refl;
       ours = λ q ne. elsewhere s.set page q d.entry ne;
       visited = refl;
@@ -162,23 +189,30 @@ walk_entry tables s T Y E page at access e read fit there_is h d r met =
         let dir_is : r.dir_at ≡ h.dir_at = found_dir r.entry (record e { dirty = h.dirty }) r.dir_at r.word_at h.dir_at h.word_at f in
         let word_is : r.word_at ≡ h.word_at = found_word r.entry (record e { dirty = h.dirty }) r.dir_at r.word_at h.dir_at h.word_at f in
         ap (flagged s.ram r.dir_at r.word_at) read
-        ∙ flags_same s.ram r.dir_at r.word_at fit (subst (λ n. has (word32 s.ram n) 32 ≡ true) (sym dir_is) h.accessed.0) (subst (λ n. has (word32 s.ram n) 32 ≡ true) (sym word_is) h.accessed.1)
+        ∙ flags_same s.ram r.dir_at r.word_at fit (subst (λ n. has (word32 s.ram n) 32 ≡ true) (sym dir_is) h.accessed.0)
+        (subst (λ n. has (word32 s.ram n) 32 ≡ true) (sym word_is) h.accessed.1)
 
-by_kind : (tables : ℕ → Bool) (s : Space) (T : Set) (Y : List ℕ) (E : Earlier) (page at : ℕ) (access : Access) → access.write ≡ false → AreBytes s.ram → AtPage tables s T page
+by_kind : (tables : ℕ → Bool) (s : Space) (T : Set) (Y : List ℕ) (E : Earlier) (page at : ℕ) (access : Access) → access.write ≡ false
+    → AreBytes s.ram → AtPage tables s T page
     → (by_entry (seen s page) true page at access (usable (get s.set page) access s.wp)).0 ≡ Ready
-    → PageReady s (by_entry (seen s page) true page at access (usable (get s.set page) access s.wp)).1 T E page (by_entry (other (seen s page) T Y E) true page at access (usable (get T page) access s.wp))
+    → PageReady s (by_entry (seen s page) true page at access (usable (get s.set page) access s.wp)).1 T E page
+    (by_entry (other (seen s page) T Y E) true page at access (usable (get T page) access s.wp))
 by_kind tables s T Y E page at access read fit (inl same) e =
-    subst (λ o. PageReady s (by_entry (seen s page) true page at access (usable (get s.set page) access s.wp)).1 T E page (by_entry (other (seen s page) T Y E) true page at access (usable o access s.wp))) same
+    subst (λ o. PageReady s (by_entry (seen s page) true page at access (usable (get s.set page) access s.wp)).1 T E page
+    (by_entry (other (seen s page) T Y E) true page at access (usable o access s.wp))) same
     (same_page s T Y E page at access (usable (get s.set page) access s.wp) same e)
 by_kind tables s T Y E page at access read fit (inr k) e =
     let d : Decision = decided (tables_of s) true page at access in
     let none : usable (get s.set page) access s.wp ≡ None = ap (λ o. usable o access s.wp) k.0 in
     let met : d.met ≡ Ready = subst (λ o. (by_entry (seen s page) true page at access o).0 ≡ Ready) none e in
-    subst (λ o. PageReady s (by_entry (seen s page) true page at access o).1 T E page (by_entry (other (seen s page) T Y E) true page at access (usable (get T page) access s.wp))) (sym none)
+    subst (λ o. PageReady s (by_entry (seen s page) true page at access o).1 T E page
+    (by_entry (other (seen s page) T Y E) true page at access (usable (get T page) access s.wp))) (sym none)
     (walk_entry tables s T Y E page at access k.1 read fit k.2 k.3 d (decided_readied (tables_of s) true page at access met) met)
 
-page_again : (tables : ℕ → Bool) (s : Space) (T : Set) (Y : List ℕ) (E : Earlier) (page at : ℕ) (access : Access) → access.write ≡ false → AreBytes s.ram → AtPage tables s T page
-    → (page_uses s true page at access).0 ≡ Ready → PageReady s (page_uses s true page at access).1 T E page (page_uses (other s T Y E) true page at access)
+page_again : (tables : ℕ → Bool) (s : Space) (T : Set) (Y : List ℕ) (E : Earlier) (page at : ℕ) (access : Access) → access.write ≡ false
+    → AreBytes s.ram → AtPage tables s T page
+    → (page_uses s true page at access).0 ≡ Ready → PageReady s (page_uses s true page at access).1 T E page
+    (page_uses (other s T Y E) true page at access)
 unfolding page_uses
 page_again tables s T Y E page at access read fit k e = by_kind tables s T Y E page at access read fit k e
 
@@ -215,11 +249,13 @@ record RangeReady (s t : Space) (T : Set) (page : ℕ) (met : Touch × Space) : 
   ours : (q : ℕ) → (q ≡ page → ⊥) → get t.set q ≡ get s.set q
   visited : t.visited ≡ s.visited ++ page ∷ []
 
-page_range : (s : Space) (T : Set) (E : Earlier) (page at len : ℕ) (met met2 : Touch × Space) → met.0 ≡ Ready → PageReady (unready s) met.1 T E page met2
+page_range : (s : Space) (T : Set) (E : Earlier) (page at len : ℕ) (met met2 : Touch × Space) → met.0 ≡ Ready
+    → PageReady (unready s) met.1 T E page met2
     → RangeReady s (and_then met (made_ready at len false)).1 T page (and_then met2 (made_ready at len false))
 page_range s T E page at len met met2 e h =
     let whole : met ≡ (Ready, met.1) = ap (λ (m : Touch). (m, met.1)) e in
-    subst (λ (p : Touch × Space). RangeReady s (and_then p (made_ready at len false)).1 T page (and_then met2 (made_ready at len false))) (sym whole) (record {
+    subst (λ (p : Touch × Space). RangeReady s (and_then p (made_ready at len false)).1 T page (and_then met2 (made_ready at len false)))
+    (sym whole) (record {
       set = h.set;
       tables = h.tables;
       earlier = E;
@@ -230,44 +266,54 @@ page_range s T E page at len met met2 e h =
       visited = h.visited;
     })
 
-fetches_again : (tables : ℕ → Bool) (s : Space) (T : Set) (Y : List ℕ) (E : Earlier) (at len : ℕ) (user : Bool) → AreBytes s.ram → AtPage tables s T (at / 4096) → (fetches s at len user).0 ≡ Ready
+fetches_again : (tables : ℕ → Bool) (s : Space) (T : Set) (Y : List ℕ) (E : Earlier) (at len : ℕ) (user : Bool) → AreBytes s.ram
+    → AtPage tables s T (at / 4096) → (fetches s at len user).0 ≡ Ready
     → RangeReady s (fetches s at len user).1 T (at / 4096) (fetches (other s T Y E) at len user)
 unfolding fetches
 fetches_again tables s T Y E at len user fit k e =
     let first : Touch × Space = page_uses (unready s) true (at / 4096) at (record { write = false; user = user }) in
     let met : first.0 ≡ Ready = was_ready first.0 first.1 (made_ready at len false) e in
     let F : Earlier = record { start = s.ready.start; len = s.ready.len; set = T } in
-    page_range s T F (at / 4096) at len first (page_uses (other (unready s) T Y F) true (at / 4096) at (record { write = false; user = user })) met
+    page_range s T F (at / 4096) at len first
+    (page_uses (other (unready s) T Y F) true (at / 4096) at (record { write = false; user = user })) met
     (page_again tables (unready s) T Y F (at / 4096) at (record { write = false; user = user }) refl fit k met)
 
-pub taken_ready : (at len : ℕ) (met : Touch) (s : Space) (x : List ℕ) (t : Space) → bytes_fetched at len met s ≡ Ok (x, t) → (met ≡ Ready) × (part s.ram (place s at) len ≡ x) × (s ≡ t)
-taken_ready at len Ready s x t e = (refl, same_value (part s.ram (place s at) len) x s t e, same_space (part s.ram (place s at) len) x s t e)
+pub taken_ready : (at len : ℕ) (met : Touch) (s : Space) (x : List ℕ) (t : Space) → bytes_fetched at len met s ≡ Ok (x, t) → (met ≡ Ready)
+    × (part s.ram (place s at) len ≡ x) × (s ≡ t)
+taken_ready at len Ready s x t e =
+    (refl, same_value (part s.ram (place s at) len) x s t e, same_space (part s.ram (place s at) len) x s t e)
 taken_ready at len (Fault code cr2) s x t e = absurd cc
 taken_ready at len (Stop stop) s x t e = absurd cc
 
-place_same : (t : Space) (T : Set) (Y : List ℕ) (E : Earlier) (page : ℕ) → ((at : ℕ) → place_by (get T page) at ≡ place_by (get t.set page) at) → (at : ℕ) → at / 4096 ≡ page → place (other t T Y E) at ≡ place t at
+place_same : (t : Space) (T : Set) (Y : List ℕ) (E : Earlier) (page : ℕ)
+    → ((at : ℕ) → place_by (get T page) at ≡ place_by (get t.set page) at) → (at : ℕ) → at / 4096 ≡ page
+    → place (other t T Y E) at ≡ place t at
 unfolding place
 place_same t T Y E page h at e = ap (λ p. place_by (get T p) at) e ∙ (h at ∙ sym (ap (λ p. place_by (get t.set p) at) e))
 
-from_range : (s t : Space) (T : Set) (at len : ℕ) (met : Touch × Space) (x : List ℕ) → part t.ram (place t at) len ≡ x → RangeReady s t T (at / 4096) met → Again s T (at / 4096) x t (bytes_fetched at len met.0 met.1)
+from_range : (s t : Space) (T : Set) (at len : ℕ) (met : Touch × Space) (x : List ℕ) → part t.ram (place t at) len ≡ x
+    → RangeReady s t T (at / 4096) met → Again s T (at / 4096) x t (bytes_fetched at len met.0 met.1)
 from_range s t T at len met x e h = record {
   set = h.set;
   tables = h.tables;
   earlier = h.earlier;
-  is = ap (λ (p : Touch × Space). bytes_fetched at len p.0 p.1) h.is ∙ ap (λ (l : List ℕ). Ok (l, other t h.set h.tables h.earlier)) (ap (λ n. part t.ram n len) (place_same t h.set h.tables h.earlier (at / 4096) h.place_is at refl) ∙ e);
+  is = ap (λ (p : Touch × Space). bytes_fetched at len p.0 p.1) h.is ∙ ap (λ (l : List ℕ). Ok (l, other t h.set h.tables h.earlier))
+      (ap (λ n. part t.ram n len) (place_same t h.set h.tables h.earlier (at / 4096) h.place_is at refl) ∙ e);
   place_is = place_same t h.set h.tables h.earlier (at / 4096) h.place_is;
   others = h.others;
   ours = h.ours;
   visited = h.visited;
 }
 
-fetching_again : (tables : ℕ → Bool) (s : Space) (T : Set) (Y : List ℕ) (E : Earlier) (user : Bool) (at len : ℕ) (x : List ℕ) (t : Space) → AreBytes s.ram → AtPage tables s T (at / 4096) → fetching user at len s ≡ Ok (x, t)
+fetching_again : (tables : ℕ → Bool) (s : Space) (T : Set) (Y : List ℕ) (E : Earlier) (user : Bool) (at len : ℕ) (x : List ℕ) (t : Space)
+    → AreBytes s.ram → AtPage tables s T (at / 4096) → fetching user at len s ≡ Ok (x, t)
     → Again s T (at / 4096) x t (fetching user at len (other s T Y E))
 unfolding fetching
 fetching_again tables s T Y E user at len x t fit k e =
     let r = taken_ready at len (fetches s at len user).0 (fetches s at len user).1 x t e in
     subst (λ (u : Space). Again s T (at / 4096) x u (fetching user at len (other s T Y E))) r.2
-    (from_range s (fetches s at len user).1 T at len (fetches (other s T Y E) at len user) x r.1 (fetches_again tables s T Y E at len user fit k r.0))
+    (from_range s (fetches s at len user).1 T at len (fetches (other s T Y E) at len user) x r.1
+    (fetches_again tables s T Y E at len user fit k r.0))
 
 -- ---- the bytes that are the instruction's own
 
@@ -301,61 +347,88 @@ pub then_is : {A B : Type 0} (o : Outcome Refusal A) (f : A → Work Refusal B) 
 then_is o f x u e = ap (λ p. on_value p f) e
 
 -- the second page, after the first
-owned_again : (eip : ℕ) (d e : Decoded) (s t : Space) (T : Set) (Y : List ℕ) (E : Earlier) → place (other s T Y E) (next_page eip) ≡ place s (next_page eip) → owned eip d s ≡ Ok (e, t) → Fetched e t (owned eip d (other s T Y E))
+owned_again : (eip : ℕ) (d e : Decoded) (s t : Space) (T : Set) (Y : List ℕ) (E : Earlier) → place (other s T Y E) (next_page eip) ≡ place s
+    (next_page eip) → owned eip d s ≡ Ok (e, t) → Fetched e t (owned eip d (other s T Y E))
 owned_again eip (begins.Insn insn len) e s t T Y E p h =
     let n : ℕ = len - front_len eip in
     let u : Space = record s { mode = with_back s.mode (place s (next_page eip)) n } in
-    let g : Ok (begins.Insn insn len, u) ≡ Ok (e, t) = sym (then_is (owning_back (next_page eip) n s) (λ x. gives (begins.Insn insn len)) tt u (back_is s (next_page eip) n)) ∙ h in
+    let g : Ok (begins.Insn insn len, u) ≡ Ok (e, t) =
+    sym (then_is (owning_back (next_page eip) n s) (λ x. gives (begins.Insn insn len)) tt u (back_is s (next_page eip) n)) ∙ h in
     record {
       space = other u T Y E;
-      is = then_is (owning_back (next_page eip) n (other s T Y E)) (λ x. gives (begins.Insn insn len)) tt (other u T Y E) (back_again s T Y E (next_page eip) n p)
+      is = then_is (owning_back (next_page eip) n (other s T Y E)) (λ x. gives (begins.Insn insn len)) tt (other u T Y E)
+          (back_again s T Y E (next_page eip) n p)
           ∙ ap (λ (x : Decoded). Ok (x, other u T Y E)) (same_value (begins.Insn insn len) e u t g);
       visited = ap (λ (x : Space). x.visited) (same_space (begins.Insn insn len) e u t g);
     }
 owned_again eip begins.Outside e s t T Y E p h =
-    record { space = other s T Y E; is = ap (λ (x : Decoded). Ok (x, other s T Y E)) (same_value begins.Outside e s t h); visited = ap (λ (x : Space). x.visited) (same_space begins.Outside e s t h) }
+    record {
+      space = other s T Y E;
+      is = ap (λ (x : Decoded). Ok (x, other s T Y E)) (same_value begins.Outside e s t h);
+      visited = ap (λ (x : Space). x.visited) (same_space begins.Outside e s t h);
+    }
 owned_again eip begins.Short e s t T Y E p h =
-    record { space = other s T Y E; is = ap (λ (x : Decoded). Ok (x, other s T Y E)) (same_value begins.Short e s t h); visited = ap (λ (x : Space). x.visited) (same_space begins.Short e s t h) }
+    record {
+      space = other s T Y E;
+      is = ap (λ (x : Decoded). Ok (x, other s T Y E)) (same_value begins.Short e s t h);
+      visited = ap (λ (x : Space). x.visited) (same_space begins.Short e s t h);
+    }
 
-on_again : (tables : ℕ → Bool) (s : Space) (T : Set) (Y : List ℕ) (E : Earlier) (user : Bool) (eip : ℕ) (front : List ℕ) (e : Decoded) (t : Space) → AreBytes s.ram → place (other s T Y E) eip ≡ place s eip → AtPage tables s T (next_page eip / 4096)
+on_again : (tables : ℕ → Bool) (s : Space) (T : Set) (Y : List ℕ) (E : Earlier) (user : Bool) (eip : ℕ) (front : List ℕ) (e : Decoded)
+    (t : Space) → AreBytes s.ram → place (other s T Y E) eip ≡ place s eip → AtPage tables s T (next_page eip / 4096)
     → fetched_on user eip front s ≡ Ok (e, t) → Fetched e t (fetched_on user eip front (other s T Y E))
 unfolding fetched_on
 on_again tables s T Y E user eip front e t fit p k h =
     let n : ℕ = front_len eip in
     let u : Space = record s { mode = with_front s.mode (place s eip) n } in
-    let first = then_is (owning_front eip n s) (λ x. fetching user (next_page eip) longest >>= (λ more. owned eip (decoded (front ++ more)))) tt u (front_is s eip n) in
+    let first = then_is (owning_front eip n s)
+    (λ x. fetching user (next_page eip) longest >>= (λ more. owned eip (decoded (front ++ more)))) tt u (front_is s eip n) in
     let parts = bound (fetching user (next_page eip) longest u) (λ more. owned eip (decoded (front ++ more))) e t (sym first ∙ h) in
     let again = fetching_again tables u T Y E user (next_page eip) longest parts.0 parts.1 fit k parts.2.0 in
-    let done = owned_again eip (decoded (front ++ parts.0)) e parts.1 t again.set again.tables again.earlier (again.place_is (next_page eip) refl) parts.2.1 in
+    let done = owned_again eip (decoded (front ++ parts.0)) e parts.1 t again.set again.tables again.earlier
+    (again.place_is (next_page eip) refl) parts.2.1 in
     record {
       space = done.space;
-      is = then_is (owning_front eip n (other s T Y E)) (λ x. fetching user (next_page eip) longest >>= (λ more. owned eip (decoded (front ++ more)))) tt (other u T Y E) (front_again s T Y E eip n p)
-          ∙ (then_is (fetching user (next_page eip) longest (other u T Y E)) (λ more. owned eip (decoded (front ++ more))) parts.0 (other parts.1 again.set again.tables again.earlier) again.is ∙ done.is);
+      is = then_is (owning_front eip n (other s T Y E))
+          (λ x. fetching user (next_page eip) longest >>= (λ more. owned eip (decoded (front ++ more)))) tt (other u T Y E)
+          (front_again s T Y E eip n p)
+          ∙ (then_is (fetching user (next_page eip) longest (other u T Y E)) (λ more. owned eip (decoded (front ++ more))) parts.0
+          (other parts.1 again.set again.tables again.earlier) again.is ∙ done.is);
       visited = done.visited;
     }
 
-by_again : (tables : ℕ → Bool) (s : Space) (T : Set) (Y : List ℕ) (E : Earlier) (user : Bool) (eip : ℕ) (front : List ℕ) (d e : Decoded) (t : Space) → AreBytes s.ram → place (other s T Y E) eip ≡ place s eip
+by_again : (tables : ℕ → Bool) (s : Space) (T : Set) (Y : List ℕ) (E : Earlier) (user : Bool) (eip : ℕ) (front : List ℕ) (d e : Decoded)
+    (t : Space) → AreBytes s.ram → place (other s T Y E) eip ≡ place s eip
     → ((eip / 4096 == 1048575) ≡ false → AtPage tables s T (next_page eip / 4096))
     → fetched_by user eip front d s ≡ Ok (e, t) → Fetched e t (fetched_by user eip front d (other s T Y E))
 by_again tables s T Y E user eip front (begins.Insn insn len) e t fit p k h =
     let u : Space = record s { mode = with_front s.mode (place s eip) len } in
-    let g : Ok (begins.Insn insn len, u) ≡ Ok (e, t) = sym (then_is (owning_front eip len s) (λ x. gives (begins.Insn insn len)) tt u (front_is s eip len)) ∙ h in
+    let g : Ok (begins.Insn insn len, u) ≡ Ok (e, t) =
+    sym (then_is (owning_front eip len s) (λ x. gives (begins.Insn insn len)) tt u (front_is s eip len)) ∙ h in
     record {
       space = other u T Y E;
-      is = then_is (owning_front eip len (other s T Y E)) (λ x. gives (begins.Insn insn len)) tt (other u T Y E) (front_again s T Y E eip len p) ∙ ap (λ (x : Decoded). Ok (x, other u T Y E)) (same_value (begins.Insn insn len) e u t g);
+      is = then_is (owning_front eip len (other s T Y E)) (λ x. gives (begins.Insn insn len)) tt (other u T Y E)
+          (front_again s T Y E eip len p) ∙ ap (λ (x : Decoded). Ok (x, other u T Y E)) (same_value (begins.Insn insn len) e u t g);
       visited = ap (λ (x : Space). x.visited) (same_space (begins.Insn insn len) e u t g);
     }
 by_again tables s T Y E user eip front begins.Outside e t fit p k h =
-    record { space = other s T Y E; is = ap (λ (x : Decoded). Ok (x, other s T Y E)) (same_value begins.Outside e s t h); visited = ap (λ (x : Space). x.visited) (same_space begins.Outside e s t h) }
+    record {
+      space = other s T Y E;
+      is = ap (λ (x : Decoded). Ok (x, other s T Y E)) (same_value begins.Outside e s t h);
+      visited = ap (λ (x : Space). x.visited) (same_space begins.Outside e s t h);
+    }
 by_again tables s T Y E user eip front begins.Short e t fit p k h = by (eip / 4096 == 1048575) k h
   where
-    by : (b : Bool) → (b ≡ false → AtPage tables s T (next_page eip / 4096)) → cond b (refuses (refusal.Stop stops.WrapAccess)) (fetched_on user eip front) s ≡ Ok (e, t)
+    by : (b : Bool) → (b ≡ false → AtPage tables s T (next_page eip / 4096)) → cond b (refuses (refusal.Stop stops.WrapAccess))
+        (fetched_on user eip front) s ≡ Ok (e, t)
         → Fetched e t (cond b (refuses (refusal.Stop stops.WrapAccess)) (fetched_on user eip front) (other s T Y E))
     by true k h = absurd cc
     by false k h = on_again tables s T Y E user eip front e t fit p (k refl) h
 
-pub fetched_again : (tables : ℕ → Bool) (s : Space) (T : Set) (Y : List ℕ) (E : Earlier) (user : Bool) (eip : ℕ) (e : Decoded) (t : Space) → AreBytes s.ram → AtPage tables s T (eip / 4096)
-    → ((front : List ℕ) (u : Space) (set : Set) → fetching user eip (front_len eip) s ≡ Ok (front, u) → (eip / 4096 == 1048575) ≡ false → ((q : ℕ) → (q ≡ eip / 4096 → ⊥) → get set q ≡ get T q) → ((q : ℕ) → (q ≡ eip / 4096 → ⊥) → get u.set q ≡ get s.set q)
+pub fetched_again : (tables : ℕ → Bool) (s : Space) (T : Set) (Y : List ℕ) (E : Earlier) (user : Bool) (eip : ℕ) (e : Decoded) (t : Space)
+    → AreBytes s.ram → AtPage tables s T (eip / 4096)
+    → ((front : List ℕ) (u : Space) (set : Set) → fetching user eip (front_len eip) s ≡ Ok (front, u) → (eip / 4096 == 1048575) ≡ false
+    → ((q : ℕ) → (q ≡ eip / 4096 → ⊥) → get set q ≡ get T q) → ((q : ℕ) → (q ≡ eip / 4096 → ⊥) → get u.set q ≡ get s.set q)
     → AreBytes u.ram × AtPage tables u set (next_page eip / 4096))
     → ((front : List ℕ) (u : Space) → fetching user eip (front_len eip) s ≡ Ok (front, u) → AreBytes u.ram)
     → fetched user eip s ≡ Ok (e, t) → Fetched e t (fetched user eip (other s T Y E))
@@ -363,10 +436,12 @@ unfolding fetched
 fetched_again tables s T Y E user eip e t fit k next bytes h =
     let parts = bound (fetching user eip (front_len eip) s) (λ front. fetched_by user eip front (decoded front)) e t h in
     let again = fetching_again tables s T Y E user eip (front_len eip) parts.0 parts.1 fit k parts.2.0 in
-    let done = by_again tables parts.1 again.set again.tables again.earlier user eip parts.0 (decoded parts.0) e t (bytes parts.0 parts.1 parts.2.0) (again.place_is eip refl)
+    let done = by_again tables parts.1 again.set again.tables again.earlier user eip parts.0 (decoded parts.0) e t
+    (bytes parts.0 parts.1 parts.2.0) (again.place_is eip refl)
     (λ not_last. (next parts.0 parts.1 again.set parts.2.0 not_last again.others again.ours).1) parts.2.1 in
     record {
       space = done.space;
-      is = then_is (fetching user eip (front_len eip) (other s T Y E)) (λ front. fetched_by user eip front (decoded front)) parts.0 (other parts.1 again.set again.tables again.earlier) again.is ∙ done.is;
+      is = then_is (fetching user eip (front_len eip) (other s T Y E)) (λ front. fetched_by user eip front (decoded front)) parts.0
+          (other parts.1 again.set again.tables again.earlier) again.is ∙ done.is;
       visited = done.visited;
     }

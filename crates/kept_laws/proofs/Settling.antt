@@ -22,11 +22,13 @@ guest_any : (frame : ℕ) (tables : List ℕ) → is_among frame (guest_frames t
 guest_any frame [] h = h
 guest_any frame (t ∷ ts) h = by (nat_le 16384 t) (guest_any frame ts) h
   where
-    both : (b : Bool) → (is_among frame (guest_frames ts) ≡ true → is_among frame ts ≡ true) → (b || is_among frame (guest_frames ts)) ≡ true → (b || is_among frame ts) ≡ true
+    both : (b : Bool) → (is_among frame (guest_frames ts) ≡ true → is_among frame ts ≡ true)
+        → (b || is_among frame (guest_frames ts)) ≡ true → (b || is_among frame ts) ≡ true
     both true k e = refl
     both false k e = k e
 
-    by : (b : Bool) → (is_among frame (guest_frames ts) ≡ true → is_among frame ts ≡ true) → is_among frame (cond (not b) (t ∷ guest_frames ts) (guest_frames ts)) ≡ true → is_among frame (t ∷ ts) ≡ true
+    by : (b : Bool) → (is_among frame (guest_frames ts) ≡ true → is_among frame ts ≡ true)
+        → is_among frame (cond (not b) (t ∷ guest_frames ts) (guest_frames ts)) ≡ true → is_among frame (t ∷ ts) ≡ true
     by true k h = or_last (frame == t) (is_among frame ts) (k h)
       where
         or_last : (a b : Bool) → b ≡ true → (a || b) ≡ true
@@ -35,13 +37,15 @@ guest_any frame (t ∷ ts) h = by (nat_le 16384 t) (guest_any frame ts) h
     by false k h = both (frame == t) k h
 
 noted_by : (read_from : ℕ → Bool) (t : Taken) (frame : ℕ) → read_by read_from t.report.tables frame ≡ true → IsNotedBy read_from t frame
-noted_by read_from t frame e = elim (or_cases (read_from frame) (is_among frame (guest_frames t.report.tables)) e) [ inl a ↦ inl a | inr b ↦ inr (guest_any frame t.report.tables b) ]
+noted_by read_from t frame e = elim (or_cases (read_from frame) (is_among frame (guest_frames t.report.tables)) e)
+    [ inl a ↦ inl a | inr b ↦ inr (guest_any frame t.report.tables b) ]
 
 one_of : (test : ℕ → Bool) (wrote : List ℕ) → list_any test wrote ≡ true → (frame : ℕ) × Contains wrote frame × (test frame ≡ true)
 one_of test [] e = absurd (let f : false ≡ true = e in cc)
 one_of test (f ∷ fs) e = by (or_cases (test f) (list_any test fs) e) (one_of test fs)
   where
-    by : (test f ≡ true) ⊎ (list_any test fs ≡ true) → (list_any test fs ≡ true → (frame : ℕ) × Contains fs frame × (test frame ≡ true)) → (frame : ℕ) × Contains (f ∷ fs) frame × (test frame ≡ true)
+    by : (test f ≡ true) ⊎ (list_any test fs ≡ true) → (list_any test fs ≡ true → (frame : ℕ) × Contains fs frame × (test frame ≡ true))
+        → (frame : ℕ) × Contains (f ∷ fs) frame × (test frame ≡ true)
     by (inl a) k = (f, (0, omega arith, refl), a)
     by (inr b) k = let h = k b in (h.0, Contains-append_right (f ∷ []) fs h.0 h.1, h.2)
 
@@ -67,7 +71,8 @@ dropped_comes_from t whole first slots is_first same gone stays = record { has =
       | inr g ↦ absurd (none-some e (sym (ap (λ (x : Set). get x page) is_first ∙ none-entries_of first page g) ∙ is))
     ]
 
-    kept : (page : ℕ) (e : Entry) → page < 2 ^ 20 → (b : Bool) → is_among page t.report.pages ≡ b → entry_in (slots page) ≡ Some e → get t.set page ≡ Some e
+    kept : (page : ℕ) (e : Entry) → page < 2 ^ 20 → (b : Bool) → is_among page t.report.pages ≡ b → entry_in (slots page) ≡ Some e
+        → get t.set page ≡ Some e
     kept page e l true used is = absurd (none-some e (sym (ap entry_in (gone page l used)) ∙ is))
     kept page e l false unused is = sym (same page unused) ∙ (sym (stays page l unused) ∙ is)
 

@@ -15,7 +15,8 @@ use Rattle.kept_laws.specs.Judged.{IsFoundStill}
 -- with the loaded value, if it is owed. What is owed is found in memory as it is.
 pub record IsReadyFor (m : Setting) (steps : List Taken) (t : Taken) (b : State) (kept : Set) : Type 0 where
   pub stays : loads_root t ≡ false → (kept ≡ b.set) ⊎ ((kept ≡ empty) × (changes_protection t ≡ true))
-  pub back : loads_root t ≡ true → (old : List Taken) (left : Taken) (since : List Taken) → IsOwed m (steps ++ t ∷ []) b t.after.cpu.cr3 old left since → ComesFrom left kept
+  pub back : loads_root t ≡ true → (old : List Taken) (left : Taken) (since : List Taken) → IsOwed m (steps ++ t ∷ []) b t.after.cpu.cr3 old
+      left since → ComesFrom left kept
   pub found : IsFoundStill m (steps ++ t ∷ []) b
   pub value : b.cpu.cr3 ≡ t.after.cpu.cr3
   pub room : loads_root t ≡ true → 4096 * m.frames ≤ length b.ram

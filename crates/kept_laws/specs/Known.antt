@@ -72,7 +72,8 @@ KnownAtStart = (m : Setting) (b : State) (v : Sight) → IsUnused v → IsKnown 
 -- It stays known while the same is kept.
 abbrev pub KnownStill : Type 0
 KnownStill =
-    (m : Setting) (steps : List Taken) (b : State) (v v' : Sight) (kept : Set) → StaysBeside v v' → IsKnown m steps b v kept → IsKnown m steps b v' kept
+    (m : Setting) (steps : List Taken) (b : State) (v v' : Sight) (kept : Set) → StaysBeside v v' → IsKnown m steps b v kept
+    → IsKnown m steps b v' kept
 
 -- A step in which the run has no part: the same is kept after it, and of translations what it left.
 abbrev pub KnownQuiet : Type 0

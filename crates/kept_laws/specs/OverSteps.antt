@@ -64,7 +64,8 @@ SettlingTells = (t : Taken) (v v' : Sight) → Tells t.report.tables t.report.wr
 -- access changed another page. So what is kept comes from the set before the step, which was what was kept then.
 abbrev pub DroppedComesFrom : Type 0
 DroppedComesFrom =
-    (t : Taken) (whole : Set) (first slots : ℕ → Option Slot) → t.set ≡ entries_of first → ((page : ℕ) → is_among page t.report.pages ≡ false → get whole page ≡ get t.set page)
+    (t : Taken) (whole : Set) (first slots : ℕ → Option Slot) → t.set ≡ entries_of first
+    → ((page : ℕ) → is_among page t.report.pages ≡ false → get whole page ≡ get t.set page)
     → ((page : ℕ) → page < 2 ^ 20 → is_among page t.report.pages ≡ true → slots page ≡ None)
     → ((page : ℕ) → page < 2 ^ 20 → is_among page t.report.pages ≡ false → entry_in (slots page) ≡ get whole page)
     → ComesFrom t (entries_of slots)
@@ -72,7 +73,8 @@ DroppedComesFrom =
 -- A step that doesn't load CR3 keeps it.
 abbrev pub StepsRemember : Type 0
 StepsRemember =
-    (m : Setting) (steps : List Taken) (t : Taken) (v v' : Sight) → loads_root t ≡ false → t.after.cpu.cr3 ≡ t.before.cpu.cr3 → IsTold t v v'
+    (m : Setting) (steps : List Taken) (t : Taken) (v v' : Sight) → loads_root t ≡ false
+    → t.after.cpu.cr3 ≡ t.before.cpu.cr3 → IsTold t v v'
     → IsRemembered m steps t.before v → IsRemembered m (steps ++ t ∷ []) t.after v'
 
 -- Where nothing is owed, all may be dropped.
@@ -108,18 +110,21 @@ pub record IsLoaded (t : Taken) (v v' : Sight) : Type 0 where
   pub others : AreSame (staying t.after.cpu.cr3 (put_under (Some t.before.cpu.cr3) v)) v'.other_roots
   pub unmarked : v'.stale ≡ false
 
--- A step that loads CR3 keeps it: settled first, where what is present comes from the step's set, and then through the load. What is owed with the loaded value is then present.
+-- A step that loads CR3 keeps it: settled first, where what is present comes from the step's set, and then through the load. What
+-- is owed with the loaded value is then present.
 abbrev pub LoadsRemember : Type 0
 LoadsRemember =
     (m : Setting) (steps : List Taken) (t : Taken) (v between v' : Sight)
     → loads_root t ≡ true → IsRemembered m steps t.before v → IsTold t v between
     → ComesFrom t (entries_of between.slots) → IsLoaded t between v'
     → IsRemembered m (steps ++ t ∷ []) t.after v'
-    × ((old : List Taken) (left : Taken) (since : List Taken) → IsOwed m (steps ++ t ∷ []) t.after t.after.cpu.cr3 old left since → ComesFrom left (entries_of v'.slots))
+    × ((old : List Taken) (left : Taken) (since : List Taken) → IsOwed m (steps ++ t ∷ []) t.after t.after.cpu.cr3 old left since
+    → ComesFrom left (entries_of v'.slots))
 
 -- So the next step uses what the rule asks for after a load, where it uses all that is then kept.
 abbrev pub LoadsBringBack : Type 0
 LoadsBringBack =
     (m : Setting) (steps : List Taken) (t : Taken) (set : Set) (slots : ℕ → Option Slot) → set ≡ entries_of slots
-    → ((old : List Taken) (left : Taken) (since : List Taken) → IsOwed m (steps ++ t ∷ []) t.after t.after.cpu.cr3 old left since → ComesFrom left (entries_of slots))
+    → ((old : List Taken) (left : Taken) (since : List Taken) → IsOwed m (steps ++ t ∷ []) t.after t.after.cpu.cr3 old left since
+    → ComesFrom left (entries_of slots))
     → Reloads (clashes m (steps ++ t ∷ []) t.after) m (steps ++ t ∷ []) t t.after set

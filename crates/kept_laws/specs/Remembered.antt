@@ -20,17 +20,20 @@ was_read steps frame = is_among frame (tables_in steps)
 -- no step wrote in a frame that a walk had read as a directory or table by its end
 abbrev pub Unwritten : List Taken → Type 0
 Unwritten steps =
-    (front : List Taken) (t : Taken) (back : List Taken) → steps ≡ front ++ t ∷ back → All (λ frame. was_read (front ++ t ∷ []) frame ≡ false) t.report.wrote
+    (front : List Taken) (t : Taken) (back : List Taken) → steps ≡ front ++ t ∷ back
+    → All (λ frame. was_read (front ++ t ∷ []) frame ≡ false) t.report.wrote
 
 -- Before a step from this state, after these steps: what was left with the value c of CR3 is owed, should c be loaded.
 -- The last step that loaded CR3 while CR3 was c is `left`, after `old` and before `since`, and the conditions hold so
 -- far under which its translations come back.
-pub record IsOwed (m : Setting) (steps : List Taken) (now : State) (c : ℕ) (old : List Taken) (left : Taken) (since : List Taken) : Type 0 where
+pub record IsOwed (m : Setting) (steps : List Taken) (now : State) (c : ℕ) (old : List Taken) (left : Taken)
+    (since : List Taken) : Type 0 where
   pub split : steps ≡ old ++ left ∷ since
   pub is_left : leaves c left ≡ true
   pub is_last : All (λ t. leaves c t ≡ false) since
   pub few : distinct_count eqb (filter (λ value. not (value == c)) (roots_in (left ∷ since))) ≤ 7
-  pub apart : (front : List Taken) (t : Taken) (back : List Taken) → since ≡ front ++ t ∷ back → clashes m (old ++ left ∷ front) t.before ≡ false
+  pub apart : (front : List Taken) (t : Taken) (back : List Taken) → since ≡ front ++ t ∷ back
+      → clashes m (old ++ left ∷ front) t.before ≡ false
   pub same : All (λ (t : Taken). (t.before.cpu.cr0 ≡ left.before.cpu.cr0) × (t.before.cpu.cr4 ≡ left.before.cpu.cr4)) since
   pub same_now : (now.cpu.cr0 ≡ left.before.cpu.cr0) × (now.cpu.cr4 ≡ left.before.cpu.cr4)
   pub unwritten : Unwritten steps
@@ -59,7 +62,8 @@ pub record ComesFrom (left : Taken) (set : Set) : Type 0 where
 abbrev pub IsThere : ℕ → Taken → List ℕ → List OtherRoot → Type 0
 IsThere c left loaded [] = ⊥
 IsThere c left loaded (a ∷ other_roots) =
-    ((a.cr3 ≡ c) × ComesFrom left (entries_of a.slots)) ⊎ ((a.cr3 ≡ c → ⊥) × (is_member eqb loaded a.cr3 ≡ true) × IsThere c left loaded other_roots)
+    ((a.cr3 ≡ c) × ComesFrom left (entries_of a.slots))
+    ⊎ ((a.cr3 ≡ c → ⊥) × (is_member eqb loaded a.cr3 ≡ true) × IsThere c left loaded other_roots)
 
 -- Between two steps of a run, of which these were done: what is kept for each value of CR3 that isn't present, the last
 -- used first. What is owed is there. The frames that are noted as tables, of the present value and of each other, were

@@ -64,22 +64,46 @@ module _ (stay : InsensitiveStay) (cpu : Cpu) (able : IsAble cpu) where
   is_able d (Left.stack known after h w k) =
       let s = suits after w in
       record {
-        suits = record { level = s.level; code = other after.seg 2 1 h (λ d. omega (arith, d)) s.code; stack = null_2 after.seg h k.there; users = s.users };
+        suits = record {
+          level = s.level;
+          code = other after.seg 2 1 h (λ d. omega (arith, d)) s.code;
+          stack = null_2 after.seg h k.there;
+          users = s.users;
+        };
         stays = tt;
       }
   is_able d (Left.of_data known after place h w one two k) =
       let s = suits after w in
-      record { suits = record { level = s.level; code = other after.seg place 1 h one s.code; stack = other after.seg place 2 h two s.stack; users = s.users }; stays = tt }
+      record {
+        suits = record {
+          level = s.level;
+          code = other after.seg place 1 h one s.code;
+          stack = other after.seg place 2 h two s.stack;
+          users = s.users;
+        };
+        stays = tt;
+      }
   is_able d (Left.code known eip h k) = record {
-    suits = record { level = able.level; code = null_1 cpu.seg h k.there; stack = other cpu.seg 1 2 h (λ d. omega (arith, d)) able.stack; users = able.users };
+    suits = record {
+      level = able.level;
+      code = null_1 cpu.seg h k.there;
+      stack = other cpu.seg 1 2 h (λ d. omega (arith, d)) able.stack;
+      users = able.users;
+    };
     stays = tt;
   }
   is_able d (Left.same_level known p l h inward) = record {
-    suits = record { level = able.level; code = null_1 cpu.seg l.hidden h.found.there; stack = other cpu.seg 1 2 l.hidden (λ d. omega (arith, d)) able.stack; users = popped_open stay cpu able p.flags };
+    suits = record {
+      level = able.level;
+      code = null_1 cpu.seg l.hidden h.found.there;
+      stack = other cpu.seg 1 2 l.hidden (λ d. omega (arith, d)) able.stack;
+      users = popped_open stay cpu able p.flags;
+    };
     stays = tt;
   }
   is_able d (Left.outer_level known p top l s h k) =
-      let segments = slice_set (slice_set cpu.seg 0 (kept_segment (p.sel % 4) (slice_index_or cpu.seg 0 none))) 3 (kept_segment (p.sel % 4) (slice_index_or cpu.seg 3 none)) in
+      let segments = slice_set (slice_set cpu.seg 0 (kept_segment (p.sel % 4) (slice_index_or cpu.seg 0 none))) 3
+      (kept_segment (p.sel % 4) (slice_index_or cpu.seg 3 none)) in
       record {
         suits = record {
           level = h.level;
@@ -91,7 +115,10 @@ module _ (stay : InsensitiveStay) (cpu : Cpu) (able : IsAble cpu) where
       }
   is_able d (Left.control_0 known len v t) = record { suits = same cpu able _ refl refl refl; stays = tt }
   is_able d (Left.control_3 known len v t) = record { suits = same cpu able _ refl refl refl; stays = refl }
-  is_able d (Left.control_4 known len v t) = record { suits = same cpu able _ refl refl refl; stays = level_stays (record (past cpu len) { cr4 = v }) (cond (changes_pse (past cpu len) v) effects.DropAll effects.Next) refl }
+  is_able d (Left.control_4 known len v t) = record {
+    suits = same cpu able _ refl refl refl;
+    stays = level_stays (record (past cpu len) { cr4 = v }) (cond (changes_pse (past cpu len) v) effects.DropAll effects.Next) refl;
+  }
 
   pub rows_able : (insn : Insn) (len : ℕ) → Yields (IsLeftAble cpu) (sys_work insn len cpu)
   rows_able insn len = record { each = λ s. ends_able _ (sys_work insn len cpu s) ((sys_left cpu _ insn len refl).each s) }
@@ -100,7 +127,8 @@ module _ (stay : InsensitiveStay) (cpu : Cpu) (able : IsAble cpu) where
       ends_able load (Ok x) h = is_able x.0 h
       ends_able load (Err e) h = tt
 
-  choice : (test : Bool) (x y : Outcome Refusal SysOutcome) → Ends (IsLeftAble cpu) x → Ends (IsLeftAble cpu) y → Ends (IsLeftAble cpu) (cond test x y)
+  choice : (test : Bool) (x y : Outcome Refusal SysOutcome) → Ends (IsLeftAble cpu) x → Ends (IsLeftAble cpu) y
+      → Ends (IsLeftAble cpu) (cond test x y)
   choice true x y h k = h
   choice false x y h k = k
 

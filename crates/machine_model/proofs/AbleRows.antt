@@ -77,7 +77,8 @@ null_2 (a ∷ []) x e = refl
 null_2 (a ∷ b ∷ []) x e = refl
 null_2 (a ∷ b ∷ c ∷ l) x e = e
 
-pub other : (l : List Hidden) (i j : ℕ) (x : Hidden) → (j ≡ i → ⊥) → (slice_index_or l j none).null ≡ false → (slice_index_or (slice_set l i x) j none).null ≡ false
+pub other : (l : List Hidden) (i j : ℕ) (x : Hidden) → (j ≡ i → ⊥) → (slice_index_or l j none).null ≡ false
+    → (slice_index_or (slice_set l i x) j none).null ≡ false
 other l i j x apart e = ap (λ (h : Hidden). h.null) (get_or-set_other l i j x none apart) ∙ e
 
 level_choice : (test : Bool) (d e : Descriptor) → IsLevel (dpl_of d) → IsLevel (dpl_of e) → IsLevel (dpl_of (cond test d e))
@@ -116,7 +117,8 @@ module _ (stay : InsensitiveStay) (cpu : Cpu) (able : IsAble cpu) where
 
   kept_open : (f : Flags) → AreKept cpu.regs.flags f → cpu.cpl ≡ 3 → (has f.bits 512 && f.bits / 4096 % 4 == 0) ≡ true
   kept_open f k u =
-      ap (λ x. (x == 1) && (f.bits / 4096 % 4 == 0)) k.interrupt ∙ ap (λ x. (cpu.regs.flags.bits / 512 % 2 == 1) && (x % 4 == 0)) k.level ∙ able.users u
+      ap (λ x. (x == 1) && (f.bits / 4096 % 4 == 0)) k.interrupt ∙ ap (λ x. (cpu.regs.flags.bits / 512 % 2 == 1) && (x % 4 == 0))
+      k.level ∙ able.users u
 
   popped_flags : (image : ℕ) → cpu.cpl ≡ 3 → new_flags cpu image ≡ taken cpu.regs.flags image
   unfolding new_flags
@@ -126,18 +128,22 @@ module _ (stay : InsensitiveStay) (cpu : Cpu) (able : IsAble cpu) where
 
   pub popped_open : (image : ℕ) → cpu.cpl ≡ 3 → (has (new_flags cpu image).bits 512 && (new_flags cpu image).bits / 4096 % 4 == 0) ≡ true
   popped_open image u =
-      ap (λ (f : Flags). has f.bits 512 && f.bits / 4096 % 4 == 0) (popped_flags image u) ∙ kept_open (taken cpu.regs.flags image) (stay.images cpu.regs.flags image) u
+      ap (λ (f : Flags). has f.bits 512 && f.bits / 4096 % 4 == 0) (popped_flags image u)
+      ∙ kept_open (taken cpu.regs.flags image) (stay.images cpu.regs.flags image) u
 
   -- ---- plain instructions
 
   of_finished : (s : Space) (o : exec.Outcome) → Leaves cpu.regs o → Ends (Suits cpu) (finished cpu s o)
-  of_finished s (outcomes.Done regs stores) k = record { level = able.level; code = able.code; stack = able.stack; users = kept_open regs.flags k }
+  of_finished s (outcomes.Done regs stores) k =
+      record { level = able.level; code = able.code; stack = able.stack; users = kept_open regs.flags k }
   of_finished s (outcomes.Raise vector code) k = tt
   of_finished s (outcomes.Stop stop) k = tt
 
-  of_writes : (insn : Insn) (len : ℕ) (before : Space) (o : Outcome Refusal (Unit {0})) → Ends (Suits cpu) (after_writes insn len cpu before o)
+  of_writes : (insn : Insn) (len : ℕ) (before : Space) (o : Outcome Refusal (Unit {0}))
+      → Ends (Suits cpu) (after_writes insn len cpu before o)
   of_writes insn len before (Ok done) =
-      of_finished done.1 (effect insn len cpu.regs (byte_by (ranges_of insn cpu.regs).read before done.1)) (stay.effects insn len cpu.regs (byte_by (ranges_of insn cpu.regs).read before done.1))
+      of_finished done.1 (effect insn len cpu.regs (byte_by (ranges_of insn cpu.regs).read before done.1))
+      (stay.effects insn len cpu.regs (byte_by (ranges_of insn cpu.regs).read before done.1))
   of_writes insn len before (Err refused) = tt
 
   of_reads : (insn : Insn) (len : ℕ) (o : Outcome Refusal (Unit {0})) → Ends (Suits cpu) (after_reads insn len cpu o)
@@ -146,7 +152,8 @@ module _ (stay : InsensitiveStay) (cpu : Cpu) (able : IsAble cpu) where
 
   pub of_plain : (insn : Insn) (len : ℕ) → Yields (Suits cpu) (executed insn len cpu)
   unfolding executed
-  of_plain insn len = any_yields (unless (refusals.Raise 13 0) (not (is_refused cpu (ranges_of insn cpu.regs)))) (λ done. record { each = λ s. of_reads insn len (reached cpu false (ranges_of insn cpu.regs).read s) })
+  of_plain insn len = any_yields (unless (refusals.Raise 13 0) (not (is_refused cpu (ranges_of insn cpu.regs))))
+      (λ done. record { each = λ s. of_reads insn len (reached cpu false (ranges_of insn cpu.regs).read s) })
 
   pub plainly_left : (o : Outcome Refusal Cpu) → Ends (Suits cpu) o → Ends (IsLeftAble cpu) (done_plainly o)
   plainly_left (Ok x) h = record { suits = h; stays = tt }

@@ -15,7 +15,8 @@ pub counted_by : (m : Setting) (b mid : State) (set : Set) (now : Report) → st
 counted_by m b mid set now is = subst (StepsTo (b.step + 1)) is (each_counts m b set)
 
 -- each step was counted
-pub steps_counted : (m : Setting) (old : State) (sets : List Set) (reports : List Report) (last : State) → Steps m old sets reports last → last.step ≡ old.step + length sets
+pub steps_counted : (m : Setting) (old : State) (sets : List Set) (reports : List Report) (last : State) → Steps m old sets reports last
+    → last.step ≡ old.step + length sets
 unfolding Steps
 steps_counted m old [] reports last h =
     let is = ap (λ (b : State). b.step) h.1 in

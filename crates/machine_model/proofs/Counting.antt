@@ -34,11 +34,13 @@ use Rattle.machine_model.specs.Step.{Completed, Result, Halts, entered, begun, b
 use Rattle.sys_exec.specs.Operand.{past}
 use Rattle.machine_model.specs.Ends.{StepsTo, EachStepCounts}
 
-read_counts : (b : State) (c : Completed) (cpu : Cpu) (port : ℕ) (wide : Bool) (s : Space) (x : PortRead × Board) → StepsTo (b.step + 1) (after_read b c cpu port wide s x)
+read_counts : (b : State) (c : Completed) (cpu : Cpu) (port : ℕ) (wide : Bool) (s : Space) (x : PortRead × Board)
+    → StepsTo (b.step + 1) (after_read b c cpu port wide s x)
 read_counts b c cpu port wide s (read.Stop, board) = tt
 read_counts b c cpu port wide s (read.Value value, board) = refl
 
-write_counts : (b : State) (c : Completed) (cpu : Cpu) (item : What) (s : Space) (x : Did × Board) → StepsTo (b.step + 1) (after_write b c cpu item s x)
+write_counts : (b : State) (c : Completed) (cpu : Cpu) (item : What) (s : Space) (x : Did × Board)
+    → StepsTo (b.step + 1) (after_write b c cpu item s x)
 write_counts b c cpu item s (did.Stop, board) = tt
 write_counts b c cpu item s (did.Done, board) = refl
 write_counts b c cpu item s (did.Sent value, board) = refl
@@ -47,31 +49,40 @@ chosen : (n : ℕ) (h : Bool) (x y : Result) → StepsTo n x → StepsTo n y →
 chosen n true x y p q = p
 chosen n false x y p q = q
 
-entered_counts : (m : Setting) (whats : List What) (c : Option Completed) (b : State) (cpu : Cpu) (board : Board) (s : Space) → StepsTo (b.step + 1) (entered m whats c b cpu board s)
-entered_counts m whats c b cpu board s = chosen (b.step + 1) (stands_well m cpu) (concluded whats c b cpu board s) (Halts stops.NotAStart) refl tt
+entered_counts : (m : Setting) (whats : List What) (c : Option Completed) (b : State) (cpu : Cpu) (board : Board) (s : Space)
+    → StepsTo (b.step + 1) (entered m whats c b cpu board s)
+entered_counts m whats c b cpu board s =
+    chosen (b.step + 1) (stands_well m cpu) (concluded whats c b cpu board s) (Halts stops.NotAStart) refl tt
 
-delivery_counts : (m : Setting) (whats : List What) (b : State) (board : Board) (o : Outcome NotDelivered Cpu) → StepsTo (b.step + 1) (after_delivery m whats b board o)
+delivery_counts : (m : Setting) (whats : List What) (b : State) (board : Board) (o : Outcome NotDelivered Cpu)
+    → StepsTo (b.step + 1) (after_delivery m whats b board o)
 delivery_counts m whats b board (Ok done) = entered_counts m whats None b done.0 board done.1
 delivery_counts m whats b board (Err refused) = tt
 
-effect_counts : (m : Setting) (b : State) (c : Completed) (e : SysEffect) (cpu : Cpu) (s : Space) → StepsTo (b.step + 1) (after_effect m b c e cpu s)
-effect_counts m b c effects.Next cpu s = chosen (b.step + 1) (may_leave m.mode b.cpu cpu) (concluded [] (Some c) b cpu b.board s) (Halts stops.UserFlags) refl tt
+effect_counts : (m : Setting) (b : State) (c : Completed) (e : SysEffect) (cpu : Cpu) (s : Space)
+    → StepsTo (b.step + 1) (after_effect m b c e cpu s)
+effect_counts m b c effects.Next cpu s =
+    chosen (b.step + 1) (may_leave m.mode b.cpu cpu) (concluded [] (Some c) b cpu b.board s) (Halts stops.UserFlags) refl tt
 effect_counts m b c effects.Halted cpu s = refl
 effect_counts m b c (effects.DropPage page) cpu s = refl
 effect_counts m b c (effects.DropDir index) cpu s = refl
 effect_counts m b c effects.DropAll cpu s = refl
 effect_counts m b c (effects.PortIn port wide) cpu s = read_counts b c cpu port wide s (port_read b.board port wide)
-effect_counts m b c (effects.PortOut port wide value) cpu s = write_counts b c cpu (out_item port wide value) s (port_written b.board port wide value)
+effect_counts m b c (effects.PortOut port wide value) cpu s =
+    write_counts b c cpu (out_item port wide value) s (port_written b.board port wide value)
 effect_counts m b c (effects.Raise vector code) cpu s = delivery_counts m [] b b.board (delivered cpu vector Raised (code_of vector code) s)
 effect_counts m b c (effects.Stop stop) cpu s = tt
 
-software_counts : (m : Setting) (b : State) (c : Completed) (vector : ℕ) (o : Outcome NotDelivered Cpu) → StepsTo (b.step + 1) (after_software m b c vector o)
+software_counts : (m : Setting) (b : State) (c : Completed) (vector : ℕ) (o : Outcome NotDelivered Cpu)
+    → StepsTo (b.step + 1) (after_software m b c vector o)
 software_counts m b c vector (Ok done) = entered_counts m [] (Some c) b done.0 b.board done.1
-software_counts m b c vector (Err (not_delivered.Privilege, s)) = delivery_counts m [] b b.board (delivered b.cpu 13 Raised (code_of 13 (8 * vector + 2)) s)
+software_counts m b c vector (Err (not_delivered.Privilege, s)) =
+    delivery_counts m [] b b.board (delivered b.cpu 13 Raised (code_of 13 (8 * vector + 2)) s)
 software_counts m b c vector (Err (not_delivered.Stop stop, s)) = tt
 
 op_counts : (m : Setting) (o : Op) (b : State) (insn : Insn) (len : ℕ) (s : Space) → StepsTo (b.step + 1) (by_op m o b insn len s)
-op_counts m op.Int b insn len s = software_counts m b (begun b insn) (insn.imm % 256) (delivered (past b.cpu len) (insn.imm % 256) Soft None s)
+op_counts m op.Int b insn len s =
+    software_counts m b (begun b insn) (insn.imm % 256) (delivered (past b.cpu len) (insn.imm % 256) Soft None s)
 op_counts m op.Int3 b insn len s = software_counts m b (begun b insn) 3 (delivered (past b.cpu len) 3 Soft None s)
 op_counts m o b insn len s =
     let t = told b.cpu (instructed insn len b.cpu s) in
@@ -83,7 +94,8 @@ decoded_counts m b begins.Short s = tt
 decoded_counts m b begins.Outside s = tt
 
 refusal_counts : (m : Setting) (b : State) (r : Refusal) (s : Space) → StepsTo (b.step + 1) (after_refusal m b r s)
-refusal_counts m b (refusal.Fault code at) s = delivery_counts m [] b b.board (delivered (record b.cpu { cr2 = at }) 14 Raised (code_of 14 code) s)
+refusal_counts m b (refusal.Fault code at) s =
+    delivery_counts m [] b b.board (delivered (record b.cpu { cr2 = at }) 14 Raised (code_of 14 code) s)
 refusal_counts m b (refusal.Raise vector code) s = delivery_counts m [] b b.board (delivered b.cpu vector Raised (code_of vector code) s)
 refusal_counts m b (refusal.Stop stop) s = tt
 
@@ -95,7 +107,8 @@ worked_counts : (m : Setting) (b : State) (s : Space) → StepsTo (b.step + 1) (
 unfolding worked
 worked_counts m b s =
     chosen (b.step + 1) b.cpu.halted (concluded [] None b b.cpu b.board s) (begins_next m b s) refl
-    (chosen (b.step + 1) (stands_well m b.cpu) (fetches_next m b s) (Halts stops.NotAStart) (fetch_counts m b (fetched (b.cpu.cpl == 3) b.cpu.regs.eip s)) tt)
+    (chosen (b.step + 1) (stands_well m b.cpu) (fetches_next m b s) (Halts stops.NotAStart)
+    (fetch_counts m b (fetched (b.cpu.cpl == 3) b.cpu.regs.eip s)) tt)
 
 interrupt_counts : (m : Setting) (o : Option ℕ) (b : State) (s : Space) → StepsTo (b.step + 1) (by_interrupt m o b s)
 unfolding interrupted

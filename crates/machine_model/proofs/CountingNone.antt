@@ -41,10 +41,13 @@ never_and false = refl
 
 -- the test of what began from a state
 direct_as : (sites : List Site) (b : State) (c : Completed) → c ≡ begun b c.insn
-    → is_direct sites c ≡ (not (is_software c.insn.op) && cond (b.cpu.cpl == 3) (not (needs_descriptor c.insn.op)) (not (is_site_at sites b.cpu.regs.eip)))
+    → is_direct sites c ≡ (not (is_software c.insn.op) && cond (b.cpu.cpl == 3) (not (needs_descriptor c.insn.op))
+    (not (is_site_at sites b.cpu.regs.eip)))
 direct_as sites b c e =
-    ap (λ (x : ℕ). not (is_software c.insn.op) && cond c.user (not (needs_descriptor c.insn.op)) (not (is_site_at sites x))) (ap (λ (x : Completed). x.eip) e)
-    ∙ ap (λ (x : Bool). not (is_software c.insn.op) && cond x (not (needs_descriptor c.insn.op)) (not (is_site_at sites b.cpu.regs.eip))) (ap (λ (x : Completed). x.user) e)
+    ap (λ (x : ℕ). not (is_software c.insn.op) && cond c.user (not (needs_descriptor c.insn.op)) (not (is_site_at sites x)))
+    (ap (λ (x : Completed). x.eip) e)
+    ∙ ap (λ (x : Bool). not (is_software c.insn.op) && cond x (not (needs_descriptor c.insn.op)) (not (is_site_at sites b.cpu.regs.eip)))
+    (ap (λ (x : Completed). x.user) e)
 
 pub in_sites : SitesCountNothing
 in_sites m b report after sites kernel inside e = indirect sites report.completed (λ c is.
@@ -93,10 +96,12 @@ soft_or_needs o n k = absurd (both_ways true n refl)
 by_soft : (sites : List Site) (b : State) (c : Completed) → c ≡ begun b c.insn → is_software c.insn.op ≡ true → is_direct sites c ≡ false
 by_soft sites b c same soft = ap (λ (x : Bool). not x && cond c.user (not (needs_descriptor c.insn.op)) (not (is_site_at sites c.eip))) soft
 
-by_user : (sites : List Site) (b : State) (c : Completed) → c ≡ begun b c.insn → (b.cpu.cpl == 3) ≡ true → is_native (b.cpu.cpl == 3) c.insn.op ≡ false → is_barred c.insn.op ≡ false → is_direct sites c ≡ false
+by_user : (sites : List Site) (b : State) (c : Completed) → c ≡ begun b c.insn → (b.cpu.cpl == 3) ≡ true
+    → is_native (b.cpu.cpl == 3) c.insn.op ≡ false → is_barred c.insn.op ≡ false → is_direct sites c ≡ false
 by_user sites b c same user native lets =
     direct_as sites b c same
-    ∙ (ap (λ (x : Bool). not (is_software c.insn.op) && cond x (not (needs_descriptor c.insn.op)) (not (is_site_at sites b.cpu.regs.eip))) user
+    ∙ (ap (λ (x : Bool). not (is_software c.insn.op) && cond x (not (needs_descriptor c.insn.op)) (not (is_site_at sites b.cpu.regs.eip)))
+    user
     ∙ soft_or_needs c.insn.op (ap (λ x. is_native x c.insn.op) (sym user) ∙ native) lets)
 
 pub others : OthersCountNothing
@@ -109,7 +114,8 @@ others m b report after sites insn reads native h e = indirect sites report.comp
       | inr soft ↦ by_soft sites b c d.same (ap (λ (x : Insn). is_software x.op) (sym one) ∙ soft)
     ])
 
-native_test : (user inside : Bool) (o : Op) → is_native user o ≡ true → (user ≡ true) ⊎ (inside ≡ false) → (not (is_software o) && cond user (not (needs_descriptor o)) (not inside)) ≡ true
+native_test : (user inside : Bool) (o : Op) → is_native user o ≡ true → (user ≡ true) ⊎ (inside ≡ false)
+    → (not (is_software o) && cond user (not (needs_descriptor o)) (not inside)) ≡ true
 native_test user inside o n h = by_place user inside o n h
   where
     plain : (o : Op) → is_native true o ≡ true → (not (is_software o) && not (needs_descriptor o)) ≡ true
@@ -126,7 +132,8 @@ native_test user inside o n h = by_place user inside o n h
     hard op.Int3 n = absurd (both_ways false refl n)
     hard o n = refl
 
-    by_place : (user inside : Bool) (o : Op) → is_native user o ≡ true → (user ≡ true) ⊎ (inside ≡ false) → (not (is_software o) && cond user (not (needs_descriptor o)) (not inside)) ≡ true
+    by_place : (user inside : Bool) (o : Op) → is_native user o ≡ true → (user ≡ true) ⊎ (inside ≡ false)
+        → (not (is_software o) && cond user (not (needs_descriptor o)) (not inside)) ≡ true
     by_place true inside o n h = plain o n
     by_place false true o n h = absurd (elim h [ inl u ↦ both_ways false refl u | inr i ↦ both_ways true i refl ])
     by_place false false o n h = ap (λ x. x && true) (hard o n)
@@ -136,5 +143,6 @@ natives m b report after sites insn c reads native h e is =
     let d = each_done m b report after e c is in
     let one : insn ≡ c.insn = one_read m b insn c.insn reads d.reads in
     let now : is_native (b.cpu.cpl == 3) c.insn.op ≡ true = ap (λ (x : Insn). is_native (b.cpu.cpl == 3) x.op) (sym one) ∙ native in
-    let test : is_direct sites c ≡ true = direct_as sites b c d.same ∙ native_test (b.cpu.cpl == 3) (is_site_at sites b.cpu.regs.eip) c.insn.op now (elim h [ inl u ↦ inl (ap (λ x. x == 3) u) | inr i ↦ inr i ]) in
+    let test : is_direct sites c ≡ true = direct_as sites b c d.same ∙ native_test (b.cpu.cpl == 3) (is_site_at sites b.cpu.regs.eip)
+    c.insn.op now (elim h [ inl u ↦ inl (ap (λ x. x == 3) u) | inr i ↦ inr i ]) in
     ap (direct_in sites) is ∙ (ap (λ x. cond x (c.eip ∷ []) []) test ∙ ap (λ (x : Completed). x.eip ∷ []) d.same)

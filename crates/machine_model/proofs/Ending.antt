@@ -28,7 +28,8 @@ one_before s n b mid now is later = record {
 bound_reached : (s : Setting) (n : ℕ) (b : State) → b.step ≡ n → HasEnd s n b
 bound_reached s n b is = record { sets = []; reports = []; last = b; end = Bound; run = record { steps = no_steps s b; ends = is } }
 
-from_step : (k : ℕ) (s : Setting) (n : ℕ) (b : State) (r : Result) → step_of s b empty ≡ r → StepsTo (b.step + 1) r → b.step + suc k ≡ n → ((mid : State) → mid.step + k ≡ n → HasEnd s n mid) → HasEnd s n b
+from_step : (k : ℕ) (s : Setting) (n : ℕ) (b : State) (r : Result) → step_of s b empty ≡ r → StepsTo (b.step + 1) r → b.step + suc k ≡ n
+    → ((mid : State) → mid.step + k ≡ n → HasEnd s n mid) → HasEnd s n b
 from_step k s n b (Went now mid) is counts left later = one_before s n b mid now is (later mid (omega (arith, counts, left)))
 from_step k s n b (Halts stop) is counts left later = record {
   sets = [];

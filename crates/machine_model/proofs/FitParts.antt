@@ -33,7 +33,8 @@ set_on : (f g h : Flags) → AreSet f g → AreSet g h → AreSet f h
 set_on f g h p q = record { fixed = q.fixed ∙ p.fixed; others = q.others ∙ p.others }
 
 pub set_interrupt : (f : Flags) (b : Bool) → AreSet f (flag_put f interrupt_at b)
-set_interrupt f b = record { fixed = put_apart f.bits 9 2 b (omega arith) refl; others = put_apart f.bits 9 4294951208 b (omega arith) refl }
+set_interrupt f b =
+    record { fixed = put_apart f.bits 9 2 b (omega arith) refl; others = put_apart f.bits 9 4294951208 b (omega arith) refl }
 
 -- the two bits of IOPL
 set_12 : (f : Flags) (b : Bool) → AreSet f (flag_put f 12 b)
@@ -49,7 +50,8 @@ set_choice false f g h p q = q
 same_set : (f : Flags) → AreSet f f
 same_set f = record { fixed = refl; others = refl }
 
-pub popped_set : ((f : Flags) (image : ℕ) → AreKept f (taken f image)) → (cpu : Cpu) (image : ℕ) → AreSet cpu.regs.flags (new_flags cpu image)
+pub popped_set : ((f : Flags) (image : ℕ) → AreKept f (taken f image)) → (cpu : Cpu) (image : ℕ)
+    → AreSet cpu.regs.flags (new_flags cpu image)
 unfolding new_flags
 popped_set images cpu image =
     let t = taken cpu.regs.flags image in
@@ -89,7 +91,8 @@ two_bits x =
 pub control_on : (v : ℕ) → bit_and v 2147483649 ≡ 2147483649 → bit_and (bit_or v 16) 2147483665 ≡ 2147483665
 control_on v e =
     let t = two_bits v in
-    three_bits (bit_or v 16) ∙ ap (λ x. x / 2147483648 % 2 * 2147483648 + (x % 2147483648 / 16 % 2 * 16 + x % 2147483648 % 16 % 2)) (set_is v 4 (omega arith)) ∙ omega (arith, t, e)
+    three_bits (bit_or v 16) ∙ ap (λ x. x / 2147483648 % 2 * 2147483648 + (x % 2147483648 / 16 % 2 * 16 + x % 2147483648 % 16 % 2))
+    (set_is v 4 (omega arith)) ∙ omega (arith, t, e)
 
 pub control_others : (v : ℕ) → bit_and v 2147155904 ≡ 0 → bit_and (bit_or v 16) 2147155904 ≡ 0
 control_others v e = and_or_apart 2147155904 v 16 refl ∙ e
@@ -134,13 +137,16 @@ module _ (cpu : Cpu) (whole : IsWhole cpu) where
   -- ---- other registers
 
   -- other flags, and held off or not
-  pub flagged : (new : Cpu) (f : Flags) → new.regs.flags ≡ f → AreSet cpu.regs.flags f → new.cpl ≡ cpu.cpl → new.seg ≡ cpu.seg → new.cr0 ≡ cpu.cr0 → new.cr3 ≡ cpu.cr3 → new.cr4 ≡ cpu.cr4 → new.halted ≡ cpu.halted → IsWhole new
+  pub flagged : (new : Cpu) (f : Flags) → new.regs.flags ≡ f → AreSet cpu.regs.flags f → new.cpl ≡ cpu.cpl → new.seg ≡ cpu.seg
+      → new.cr0 ≡ cpu.cr0 → new.cr3 ≡ cpu.cr3 → new.cr4 ≡ cpu.cr4 → new.halted ≡ cpu.halted → IsWhole new
   flagged new f g k l s c0 c3 c4 h = record {
     fit = record {
       level = subst IsLevel (sym l) fit.level;
       segments = subst (λ (x : List Hidden). All IsSegment x) (sym s) fit.segments;
-      code = of_level new (seg_of cpu 1) (seg_of new 1) (ap (λ (x : List Hidden). slice_index_or x 1 none) s) fit.code.there (fit.code.level ∙ sym l);
-      stack = of_level new (seg_of cpu 2) (seg_of new 2) (ap (λ (x : List Hidden). slice_index_or x 2 none) s) fit.stack.there (fit.stack.level ∙ sym l);
+      code = of_level new (seg_of cpu 1) (seg_of new 1) (ap (λ (x : List Hidden). slice_index_or x 1 none) s) fit.code.there
+          (fit.code.level ∙ sym l);
+      stack = of_level new (seg_of cpu 2) (seg_of new 2) (ap (λ (x : List Hidden). slice_index_or x 2 none) s) fit.stack.there
+          (fit.stack.level ∙ sym l);
       flags = subst (λ (x : Flags). AreFlags x.bits) (sym g) (set_flags cpu.regs.flags f k fit.flags);
       controls = record {
         on = ap (λ x. bit_and x 2147483665) c0 ∙ fit.controls.on;
@@ -153,5 +159,6 @@ module _ (cpu : Cpu) (whole : IsWhole cpu) where
     four = ap (λ (x : List Hidden). length x) s ∙ whole.four;
   }
 
-  pub same : (new : Cpu) → new.cpl ≡ cpu.cpl → new.seg ≡ cpu.seg → new.regs.flags ≡ cpu.regs.flags → new.cr0 ≡ cpu.cr0 → new.cr3 ≡ cpu.cr3 → new.cr4 ≡ cpu.cr4 → new.halted ≡ cpu.halted → IsWhole new
+  pub same : (new : Cpu) → new.cpl ≡ cpu.cpl → new.seg ≡ cpu.seg → new.regs.flags ≡ cpu.regs.flags → new.cr0 ≡ cpu.cr0 → new.cr3 ≡ cpu.cr3
+      → new.cr4 ≡ cpu.cr4 → new.halted ≡ cpu.halted → IsWhole new
   same new l s f c0 c3 c4 h = flagged new cpu.regs.flags f (same_set cpu.regs.flags) l s c0 c3 c4 h

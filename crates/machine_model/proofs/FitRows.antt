@@ -42,13 +42,16 @@ module _ (stay : InsensitiveStay) (cpu : Cpu) (whole : IsWhole cpu) where
   with_flags : (new : Cpu) (f : Flags) → AreSet cpu.regs.flags f → IsBeside cpu f new → IsWhole new
   with_flags new f s h = flagged cpu whole new f h.flags s h.level h.segments h.cr0 h.cr3 h.cr4 h.halted
 
-  controlled : (new : Cpu) → AreControls new → new.cpl ≡ cpu.cpl → new.seg ≡ cpu.seg → new.regs.flags ≡ cpu.regs.flags → new.halted ≡ cpu.halted → IsWhole new
+  controlled : (new : Cpu) → AreControls new → new.cpl ≡ cpu.cpl → new.seg ≡ cpu.seg → new.regs.flags ≡ cpu.regs.flags
+      → new.halted ≡ cpu.halted → IsWhole new
   controlled new c l s f h = record {
     fit = record {
       level = subst IsLevel (sym l) fit.level;
       segments = subst (λ (x : List Hidden). All IsSegment x) (sym s) fit.segments;
-      code = of_level new (seg_of cpu 1) (seg_of new 1) (ap (λ (x : List Hidden). slice_index_or x 1 none) s) fit.code.there (fit.code.level ∙ sym l);
-      stack = of_level new (seg_of cpu 2) (seg_of new 2) (ap (λ (x : List Hidden). slice_index_or x 2 none) s) fit.stack.there (fit.stack.level ∙ sym l);
+      code = of_level new (seg_of cpu 1) (seg_of new 1) (ap (λ (x : List Hidden). slice_index_or x 1 none) s) fit.code.there
+          (fit.code.level ∙ sym l);
+      stack = of_level new (seg_of cpu 2) (seg_of new 2) (ap (λ (x : List Hidden). slice_index_or x 2 none) s) fit.stack.there
+          (fit.stack.level ∙ sym l);
       flags = subst (λ (x : Flags). AreFlags x.bits) (sym f) fit.flags;
       controls = c;
       halted = λ e. l ∙ fit.halted (sym h ∙ e);
@@ -63,7 +66,8 @@ module _ (stay : InsensitiveStay) (cpu : Cpu) (whole : IsWhole cpu) where
       one_of true e u = inl (eqb-true v 0 e)
       one_of false e u = inr (eqb-true v 16 u)
 
-  with_data : (after : Cpu) → IsWhole after → (i : ℕ) (h : Hidden) → IsSegment h → (1 ≡ i → ⊥) → (2 ≡ i → ⊥) → IsWhole (record after { seg = slice_set after.seg i h })
+  with_data : (after : Cpu) → IsWhole after → (i : ℕ) (h : Hidden) → IsSegment h → (1 ≡ i → ⊥) → (2 ≡ i → ⊥)
+      → IsWhole (record after { seg = slice_set after.seg i h })
   with_data after w i h s one two = record {
     fit = record {
       level = w.fit.level;
@@ -71,7 +75,12 @@ module _ (stay : InsensitiveStay) (cpu : Cpu) (whole : IsWhole cpu) where
       code = of_level _ (seg_of after 1) _ (kept_code after.seg i 1 h one) w.fit.code.there w.fit.code.level;
       stack = of_level _ (seg_of after 2) _ (kept_code after.seg i 2 h two) w.fit.stack.there w.fit.stack.level;
       flags = w.fit.flags;
-      controls = record { on = w.fit.controls.on; others = w.fit.controls.others; directory = w.fit.controls.directory; extensions = w.fit.controls.extensions };
+      controls = record {
+        on = w.fit.controls.on;
+        others = w.fit.controls.others;
+        directory = w.fit.controls.directory;
+        extensions = w.fit.controls.extensions;
+      };
       halted = w.fit.halted;
     };
     four = length-set after.seg i h ∙ w.four;
@@ -91,7 +100,12 @@ module _ (stay : InsensitiveStay) (cpu : Cpu) (whole : IsWhole cpu) where
       code = record { there = fit.code.there; level = fit.code.level };
       stack = record { there = fit.stack.there; level = fit.stack.level };
       flags = fit.flags;
-      controls = record { on = fit.controls.on; others = fit.controls.others; directory = fit.controls.directory; extensions = fit.controls.extensions };
+      controls = record {
+        on = fit.controls.on;
+        others = fit.controls.others;
+        directory = fit.controls.directory;
+        extensions = fit.controls.extensions;
+      };
       halted = λ e. eqb-true cpu.cpl 0 t;
     };
     four = whole.four;
@@ -105,7 +119,12 @@ module _ (stay : InsensitiveStay) (cpu : Cpu) (whole : IsWhole cpu) where
           code = of_level _ (seg_of after 1) _ (kept_code after.seg 2 1 h (λ d. omega (arith, d))) w.fit.code.there w.fit.code.level;
           stack = of_level _ h _ (put_there after.seg 2 h (omega (arith, w.four))) k.there (k.level_is ∙ sym b.level);
           flags = w.fit.flags;
-          controls = record { on = w.fit.controls.on; others = w.fit.controls.others; directory = w.fit.controls.directory; extensions = w.fit.controls.extensions };
+          controls = record {
+            on = w.fit.controls.on;
+            others = w.fit.controls.others;
+            directory = w.fit.controls.directory;
+            extensions = w.fit.controls.extensions;
+          };
           halted = w.fit.halted;
         };
         four = length-set after.seg 2 h ∙ w.four;
@@ -118,7 +137,12 @@ module _ (stay : InsensitiveStay) (cpu : Cpu) (whole : IsWhole cpu) where
       code = of_level _ h _ (put_there cpu.seg 1 h (omega (arith, whole.four))) k.there k.level_is;
       stack = of_level _ (seg_of cpu 2) _ (kept_code cpu.seg 1 2 h (λ d. omega (arith, d))) fit.stack.there fit.stack.level;
       flags = fit.flags;
-      controls = record { on = fit.controls.on; others = fit.controls.others; directory = fit.controls.directory; extensions = fit.controls.extensions };
+      controls = record {
+        on = fit.controls.on;
+        others = fit.controls.others;
+        directory = fit.controls.directory;
+        extensions = fit.controls.extensions;
+      };
       halted = fit.halted;
     };
     four = length-set cpu.seg 1 h ∙ whole.four;
@@ -127,10 +151,16 @@ module _ (stay : InsensitiveStay) (cpu : Cpu) (whole : IsWhole cpu) where
     fit = record {
       level = fit.level;
       segments = All-set IsSegment cpu.seg 1 code.hidden h.found.segment fit.segments;
-      code = of_level _ code.hidden _ (put_there cpu.seg 1 code.hidden (omega (arith, whole.four))) h.found.there (h.found.level_is ∙ meet (p.sel % 4) cpu.cpl h.outward inward);
+      code = of_level _ code.hidden _ (put_there cpu.seg 1 code.hidden (omega (arith, whole.four))) h.found.there
+          (h.found.level_is ∙ meet (p.sel % 4) cpu.cpl h.outward inward);
       stack = of_level _ (seg_of cpu 2) _ (kept_code cpu.seg 1 2 code.hidden (λ d. omega (arith, d))) fit.stack.there fit.stack.level;
       flags = set_flags cpu.regs.flags (new_flags cpu p.flags) (popped_set stay.images cpu p.flags) fit.flags;
-      controls = record { on = fit.controls.on; others = fit.controls.others; directory = fit.controls.directory; extensions = fit.controls.extensions };
+      controls = record {
+        on = fit.controls.on;
+        others = fit.controls.others;
+        directory = fit.controls.directory;
+        extensions = fit.controls.extensions;
+      };
       halted = fit.halted;
     };
     four = length-set cpu.seg 1 code.hidden ∙ whole.four;
@@ -141,18 +171,28 @@ module _ (stay : InsensitiveStay) (cpu : Cpu) (whole : IsWhole cpu) where
       let first = slice_set cpu.seg 0 es in
       let segments = slice_set first 3 ds in
       let with_code = slice_set segments 1 code.hidden in
-      let es_fits = kept_fits (nat_lt (slice_index_or cpu.seg 0 none).dpl (p.sel % 4)) (slice_index_or cpu.seg 0 none) (fit.segments 0 none (omega (arith, whole.four))) in
-      let ds_fits = kept_fits (nat_lt (slice_index_or cpu.seg 3 none).dpl (p.sel % 4)) (slice_index_or cpu.seg 3 none) (fit.segments 3 none (omega (arith, whole.four))) in
+      let es_fits = kept_fits (nat_lt (slice_index_or cpu.seg 0 none).dpl (p.sel % 4)) (slice_index_or cpu.seg 0 none)
+      (fit.segments 0 none (omega (arith, whole.four))) in
+      let ds_fits = kept_fits (nat_lt (slice_index_or cpu.seg 3 none).dpl (p.sel % 4)) (slice_index_or cpu.seg 3 none)
+      (fit.segments 3 none (omega (arith, whole.four))) in
       let four : length segments ≡ 4 = length-set first 3 ds ∙ length-set cpu.seg 0 es ∙ whole.four in
       let still : length with_code ≡ 4 = length-set segments 1 code.hidden ∙ four in
       record {
         fit = record {
           level = h.level;
-          segments = All-set IsSegment with_code 2 stack.hidden k.segment (All-set IsSegment segments 1 code.hidden h.found.segment (All-set IsSegment first 3 ds ds_fits (All-set IsSegment cpu.seg 0 es es_fits fit.segments)));
-          code = of_level _ code.hidden _ (kept_code with_code 2 1 stack.hidden (λ d. omega (arith, d)) ∙ put_there segments 1 code.hidden (omega (arith, four))) h.found.there h.found.level_is;
+          segments = All-set IsSegment with_code 2 stack.hidden k.segment
+              (All-set IsSegment segments 1 code.hidden h.found.segment
+              (All-set IsSegment first 3 ds ds_fits (All-set IsSegment cpu.seg 0 es es_fits fit.segments)));
+          code = of_level _ code.hidden _ (kept_code with_code 2 1 stack.hidden (λ d. omega (arith, d)) ∙ put_there segments 1 code.hidden
+              (omega (arith, four))) h.found.there h.found.level_is;
           stack = of_level _ stack.hidden _ (put_there with_code 2 stack.hidden (omega (arith, still))) k.there k.level_is;
           flags = set_flags cpu.regs.flags (new_flags cpu p.flags) (popped_set stay.images cpu p.flags) fit.flags;
-          controls = record { on = fit.controls.on; others = fit.controls.others; directory = fit.controls.directory; extensions = fit.controls.extensions };
+          controls = record {
+            on = fit.controls.on;
+            others = fit.controls.others;
+            directory = fit.controls.directory;
+            extensions = fit.controls.extensions;
+          };
           halted = λ e. absurd (let f : true ≡ false = sym e ∙ awake in cc);
         };
         four = length-set with_code 2 stack.hidden ∙ still;
@@ -188,13 +228,15 @@ module _ (stay : InsensitiveStay) (cpu : Cpu) (whole : IsWhole cpu) where
   -- ---- plain instructions
 
   of_finished : (s : Space) (o : exec.Outcome) → Leaves cpu.regs o → Ends IsWhole (finished cpu s o)
-  of_finished s (outcomes.Done regs stores) k = flagged cpu whole (record cpu { regs = regs }) regs.flags refl k.set refl refl refl refl refl refl
+  of_finished s (outcomes.Done regs stores) k =
+      flagged cpu whole (record cpu { regs = regs }) regs.flags refl k.set refl refl refl refl refl refl
   of_finished s (outcomes.Raise vector code) k = tt
   of_finished s (outcomes.Stop stop) k = tt
 
   of_writes : (insn : Insn) (len : ℕ) (before : Space) (o : Outcome Refusal (Unit {0})) → Ends IsWhole (after_writes insn len cpu before o)
   of_writes insn len before (Ok done) =
-      of_finished done.1 (effect insn len cpu.regs (byte_by (ranges_of insn cpu.regs).read before done.1)) (stay.effects insn len cpu.regs (byte_by (ranges_of insn cpu.regs).read before done.1))
+      of_finished done.1 (effect insn len cpu.regs (byte_by (ranges_of insn cpu.regs).read before done.1))
+      (stay.effects insn len cpu.regs (byte_by (ranges_of insn cpu.regs).read before done.1))
   of_writes insn len before (Err refused) = tt
 
   of_reads : (insn : Insn) (len : ℕ) (o : Outcome Refusal (Unit {0})) → Ends IsWhole (after_reads insn len cpu o)
@@ -204,13 +246,15 @@ module _ (stay : InsensitiveStay) (cpu : Cpu) (whole : IsWhole cpu) where
   of_plain : (insn : Insn) (len : ℕ) → Yields IsWhole (executed insn len cpu)
   unfolding executed
   of_plain insn len =
-      any_yields (unless (refusals.Raise 13 0) (not (is_refused cpu (ranges_of insn cpu.regs)))) (λ done. record { each = λ s. of_reads insn len (reached cpu false (ranges_of insn cpu.regs).read s) })
+      any_yields (unless (refusals.Raise 13 0) (not (is_refused cpu (ranges_of insn cpu.regs))))
+      (λ done. record { each = λ s. of_reads insn len (reached cpu false (ranges_of insn cpu.regs).read s) })
 
   plainly_left : (o : Outcome Refusal Cpu) → Ends IsWhole o → Ends (λ (d : SysOutcome). IsWhole d.cpu) (done_plainly o)
   plainly_left (Ok x) h = h
   plainly_left (Err refused) h = tt
 
-  choice : (test : Bool) (x y : Outcome Refusal SysOutcome) → Ends (λ (d : SysOutcome). IsWhole d.cpu) x → Ends (λ (d : SysOutcome). IsWhole d.cpu) y → Ends (λ (d : SysOutcome). IsWhole d.cpu) (cond test x y)
+  choice : (test : Bool) (x y : Outcome Refusal SysOutcome) → Ends (λ (d : SysOutcome). IsWhole d.cpu) x
+      → Ends (λ (d : SysOutcome). IsWhole d.cpu) y → Ends (λ (d : SysOutcome). IsWhole d.cpu) (cond test x y)
   choice true x y h k = h
   choice false x y h k = k
 

@@ -69,12 +69,14 @@ usable limit sel e = let far : nat_le 4 sel ≡ true = (and_parts (nat_le 4 sel)
 
 code_usable : (cpu : Cpu) (sel : ℕ) → Yields (λ done. nat_lt sel 4 ≡ false) (code_marking cpu sel)
 unfolding code_marking
-code_usable cpu sel = then_yields (unless_yields failed (is_usable cpu.gdt.limit sel)) (λ done t. keeps_yields _ (usable cpu.gdt.limit sel t))
+code_usable cpu sel =
+    then_yields (unless_yields failed (is_usable cpu.gdt.limit sel)) (λ done t. keeps_yields _ (usable cpu.gdt.limit sel t))
 
 data_usable : (cpu : Cpu) (sel : ℕ) → Yields (λ done. nat_lt sel 4 ≡ false) (data_marking cpu sel)
 unfolding data_marking
 data_usable cpu sel =
-    then_yields (unless_yields failed (is_usable cpu.gdt.limit sel && sel % 4 == 0)) (λ done t. keeps_yields _ (usable cpu.gdt.limit sel (and_parts (is_usable cpu.gdt.limit sel) (sel % 4 == 0) t).0))
+    then_yields (unless_yields failed (is_usable cpu.gdt.limit sel && sel % 4 == 0))
+    (λ done t. keeps_yields _ (usable cpu.gdt.limit sel (and_parts (is_usable cpu.gdt.limit sel) (sel % 4 == 0) t).0))
 
 inner_usable : (cpu : Cpu) → OfValue (inner_stack cpu) (λ stack. nat_lt stack.sel 4 ≡ false)
 unfolding inner_stack
@@ -84,7 +86,8 @@ inner_usable cpu =
     any_yields (reads ((cpu.task.base + 4) % 2 ^ 32) Long) (λ top.
     any_yields (reaching denials ((cpu.task.base + 8) % 2 ^ 32) 2 (by_processor false)) (λ three.
     any_yields (reads ((cpu.task.base + 8) % 2 ^ 32) Word) (λ sel.
-    then_yields (data_usable cpu sel) (λ marking far. gives_yields {x = record { top = top; sel = sel; marking = marking; inner = true }} far))))))
+    then_yields (data_usable cpu sel)
+    (λ marking far. gives_yields {x = record { top = top; sel = sel; marking = marking; inner = true }} far))))))
 
 module _ (cpu : Cpu) (whole : IsWhole cpu) where
   fit : Fit cpu
@@ -94,9 +97,11 @@ module _ (cpu : Cpu) (whole : IsWhole cpu) where
   unfolding stack_of
   stack_usable =
       by_yields (cpu.cpl == 3) (λ user. inner_usable cpu) (λ kernel.
-      gives_yields {x = record { top = slice_index cpu.regs.r 4; sel = (seg_of cpu 2).sel; marking = None; inner = false }} (sym (fit.segments 2 none (omega (arith, whole.four))).null ∙ fit.stack.there))
+      gives_yields {x = record { top = slice_index cpu.regs.r 4; sel = (seg_of cpu 2).sel; marking = None; inner = false }}
+      (sym (fit.segments 2 none (omega (arith, whole.four))).null ∙ fit.stack.there))
 
-  masked_by : (kept : ℕ) → bit_and kept 2 ≡ 2 → bit_and kept 4294951208 ≡ bit_and 4294951208 kept → AreFlags (bit_and cpu.regs.flags.bits kept)
+  masked_by : (kept : ℕ) → bit_and kept 2 ≡ 2 → bit_and kept 4294951208 ≡ bit_and 4294951208 kept
+      → AreFlags (bit_and cpu.regs.flags.bits kept)
   masked_by kept e k = record {
     fixed = and_assoc 2 cpu.regs.flags.bits kept ∙ ap (λ x. bit_and cpu.regs.flags.bits x) e ∙ fit.flags.fixed;
     others =
@@ -111,8 +116,10 @@ module _ (cpu : Cpu) (whole : IsWhole cpu) where
   pub delivered_whole : (vector : ℕ) (kind : Kind) (code : Option ℕ) → Yields IsWhole (delivered cpu vector kind code)
   unfolding delivered
   delivered_whole vector kind code =
-      any_yields (entry_of cpu vector kind) (λ entry. then_yields (code_usable cpu entry.sel) (λ marking far. then_yields stack_usable (λ stack low.
-      any_yields (push_frame cpu stack code) (λ top. any_yields (mark denials cpu entry.sel marking) (λ one. any_yields (mark denials cpu stack.sel stack.marking) (λ two.
+      any_yields (entry_of cpu vector kind)
+      (λ entry. then_yields (code_usable cpu entry.sel) (λ marking far. then_yields stack_usable (λ stack low.
+      any_yields (push_frame cpu stack code)
+      (λ top. any_yields (mark denials cpu entry.sel marking) (λ one. any_yields (mark denials cpu stack.sel stack.marking) (λ two.
       let handler : Hidden = record { sel = entry.sel / 4 * 4; null = false; dpl = 0 } in
       let inner : Hidden = record { sel = stack.sel; null = false; dpl = 0 } in
       let first = slice_set cpu.seg 1 handler in
@@ -120,11 +127,19 @@ module _ (cpu : Cpu) (whole : IsWhole cpu) where
       gives_yields {x = entered cpu entry stack top} (record {
         fit = record {
           level = inl refl;
-          segments = All-set IsSegment first 2 inner (record { null = sym low; level = inl refl }) (All-set IsSegment cpu.seg 1 handler (record { null = sym (not_below entry.sel far); level = inl refl }) fit.segments);
-          code = of_level _ handler _ (kept_code first 2 1 inner (λ d. omega (arith, d)) ∙ put_there cpu.seg 1 handler (omega (arith, whole.four))) refl refl;
+          segments = All-set IsSegment first 2 inner (record { null = sym low; level = inl refl })
+              (All-set IsSegment cpu.seg 1 handler (record { null = sym (not_below entry.sel far); level = inl refl }) fit.segments);
+          code =
+              of_level _ handler _ (kept_code first 2 1 inner (λ d. omega (arith, d)) ∙ put_there cpu.seg 1 handler
+              (omega (arith, whole.four))) refl refl;
           stack = of_level _ inner _ (put_there first 2 inner (omega (arith, four))) refl refl;
           flags = masked entry.keeps;
-          controls = record { on = fit.controls.on; others = fit.controls.others; directory = fit.controls.directory; extensions = fit.controls.extensions };
+          controls = record {
+            on = fit.controls.on;
+            others = fit.controls.others;
+            directory = fit.controls.directory;
+            extensions = fit.controls.extensions;
+          };
           halted = λ e. refl;
         };
         four = length-set first 2 inner ∙ four;
@@ -134,35 +149,43 @@ at_fault : (cpu : Cpu) (at : ℕ) → IsWhole cpu → IsWhole (record cpu { cr2 
 at_fault cpu at h = same cpu h (record cpu { cr2 = at }) refl refl refl refl refl refl refl
 
 module _ (m : Setting) (b : State) where
-  of_entered : (whats : List What) (c : Option Completed) (cpu : Cpu) (board : Board) (s : Space) → IsWhole cpu → LeavesWhole (step.entered m whats c b cpu board s)
-  of_entered whats c cpu board s h = chosen (stands_well m cpu) (step.concluded whats c b cpu board s) (Halts stops.NotAStart) (λ well. h) (λ bad. tt)
+  of_entered : (whats : List What) (c : Option Completed) (cpu : Cpu) (board : Board) (s : Space) → IsWhole cpu
+      → LeavesWhole (step.entered m whats c b cpu board s)
+  of_entered whats c cpu board s h =
+      chosen (stands_well m cpu) (step.concluded whats c b cpu board s) (Halts stops.NotAStart) (λ well. h) (λ bad. tt)
 
-  of_delivery : (whats : List What) (board : Board) (o : Outcome NotDelivered Cpu) → Ends IsWhole o → LeavesWhole (after_delivery m whats b board o)
+  of_delivery : (whats : List What) (board : Board) (o : Outcome NotDelivered Cpu) → Ends IsWhole o
+      → LeavesWhole (after_delivery m whats b board o)
   of_delivery whats board (Ok done) h = of_entered whats None done.0 board done.1 h
   of_delivery whats board (Err refused) h = tt
 
   of_raised : (cpu : Cpu) (vector code : ℕ) (s : Space) → IsWhole cpu → LeavesWhole (step.raised m b cpu vector code s)
-  of_raised cpu vector code s h = of_delivery [] b.board (delivered cpu vector Raised (code_of vector code) s) ((delivered_whole cpu h vector Raised (code_of vector code)).each s)
+  of_raised cpu vector code s h = of_delivery [] b.board (delivered cpu vector Raised (code_of vector code) s)
+      ((delivered_whole cpu h vector Raised (code_of vector code)).each s)
 
-  of_read : (c : Completed) (cpu : Cpu) (port : ℕ) (wide : Bool) (s : Space) (x : PortRead × Board) → IsWhole cpu → LeavesWhole (after_read b c cpu port wide s x)
+  of_read : (c : Completed) (cpu : Cpu) (port : ℕ) (wide : Bool) (s : Space) (x : PortRead × Board) → IsWhole cpu
+      → LeavesWhole (after_read b c cpu port wide s x)
   unfolding with_register
   of_read c cpu port wide s (read.Stop, board) h = tt
   of_read c cpu port true s (read.Value value, board) h = same cpu h (with_accumulator true value cpu) refl refl refl refl refl refl refl
   of_read c cpu port false s (read.Value value, board) h = same cpu h (with_accumulator false value cpu) refl refl refl refl refl refl refl
 
-  of_write : (c : Completed) (cpu : Cpu) (item : What) (s : Space) (x : Did × Board) → IsWhole cpu → LeavesWhole (after_write b c cpu item s x)
+  of_write : (c : Completed) (cpu : Cpu) (item : What) (s : Space) (x : Did × Board) → IsWhole cpu
+      → LeavesWhole (after_write b c cpu item s x)
   of_write c cpu item s (did.Stop, board) h = tt
   of_write c cpu item s (did.Done, board) h = h
   of_write c cpu item s (did.Sent value, board) h = h
 
   of_effect : (c : Completed) (e : SysEffect) (cpu : Cpu) (s : Space) → IsWhole cpu → LeavesWhole (after_effect m b c e cpu s)
-  of_effect c effects.Next cpu s h = chosen (may_leave m.mode b.cpu cpu) (step.concluded [] (Some c) b cpu b.board s) (Halts stops.UserFlags) (λ leave. h) (λ no. tt)
+  of_effect c effects.Next cpu s h =
+      chosen (may_leave m.mode b.cpu cpu) (step.concluded [] (Some c) b cpu b.board s) (Halts stops.UserFlags) (λ leave. h) (λ no. tt)
   of_effect c effects.Halted cpu s h = h
   of_effect c (effects.DropPage page) cpu s h = h
   of_effect c (effects.DropDir index) cpu s h = h
   of_effect c effects.DropAll cpu s h = h
   of_effect c (effects.PortIn port wide) cpu s h = of_read c cpu port wide s (port_read b.board port wide) h
-  of_effect c (effects.PortOut port wide value) cpu s h = of_write c cpu (out_item port wide value) s (port_written b.board port wide value) h
+  of_effect c (effects.PortOut port wide value) cpu s h =
+      of_write c cpu (out_item port wide value) s (port_written b.board port wide value) h
   of_effect c (effects.Raise vector code) cpu s h = of_raised cpu vector code s h
   of_effect c (effects.Stop stop) cpu s h = tt
 
@@ -182,7 +205,8 @@ module _ (m : Setting) (b : State) where
     of_told c (refusal.Raise vector code) s = of_raised b.cpu vector code s whole
     of_told c (refusal.Stop stop) s = tt
 
-    of_instruction : (c : Completed) (o : Outcome Refusal SysOutcome) → Ends (λ (d : SysOutcome). IsWhole d.cpu) o → LeavesWhole (after_instruction m b c o)
+    of_instruction : (c : Completed) (o : Outcome Refusal SysOutcome) → Ends (λ (d : SysOutcome). IsWhole d.cpu) o
+        → LeavesWhole (after_instruction m b c o)
     of_instruction c (Ok done) h = of_effect c done.0.effect done.0.cpu done.1 h
     of_instruction c (Err refused) h = of_told c refused.0 refused.1
 
@@ -209,16 +233,19 @@ module _ (m : Setting) (b : State) where
     unfolding worked
     of_work s =
         chosen b.cpu.halted (step.concluded [] None b b.cpu b.board s) (begins_next m b s) (λ halted. whole) (λ awake.
-        chosen (stands_well m b.cpu) (fetches_next m b s) (Halts stops.NotAStart) (λ well. of_fetch awake (fetched (b.cpu.cpl == 3) b.cpu.regs.eip s)) (λ bad. tt))
+        chosen (stands_well m b.cpu) (fetches_next m b s) (Halts stops.NotAStart)
+        (λ well. of_fetch awake (fetched (b.cpu.cpl == 3) b.cpu.regs.eip s)) (λ bad. tt))
 
     of_interrupt : (o : Option ℕ) (s : Space) → LeavesWhole (by_interrupt m o b s)
     unfolding interrupted
     of_interrupt None s = of_work s
-    of_interrupt (Some v) s = of_delivery (Irq v ∷ []) (acknowledged b.board) (delivered b.cpu v External None s) ((delivered_whole b.cpu whole v External None).each s)
+    of_interrupt (Some v) s = of_delivery (Irq v ∷ []) (acknowledged b.board) (delivered b.cpu v External None s)
+        ((delivered_whole b.cpu whole v External None).each s)
 
 pub each_keeps_fit : InsensitiveStay → StepsKeepFit
 each_keeps_fit stay m b fit four report after is =
     let whole : IsWhole b.cpu = record { fit = fit; four = four } in
     let w = subst LeavesWhole is
-    (of_interrupt m (unheld b) stay (same b.cpu whole (record b.cpu { held = false }) refl refl refl refl refl refl refl) (interrupt_of b.cpu b.board) (space_at_start m.mode m.frames b.cpu b.ram b.set)) in
+    (of_interrupt m (unheld b) stay (same b.cpu whole (record b.cpu { held = false }) refl refl refl refl refl refl refl)
+    (interrupt_of b.cpu b.board) (space_at_start m.mode m.frames b.cpu b.ram b.set)) in
     (w.fit, w.four)

@@ -38,7 +38,8 @@ among f (x ∷ xs) = cond (x == f) true (among f xs)
 pub next_in : (x f : ℕ) (xs : List ℕ) → Contains xs f → Contains (x ∷ xs) f
 next_in x f xs h = Contains-append_right (x ∷ []) xs f h
 
-told_first : (x f : ℕ) (xs : List ℕ) (t : Bool) → (x == f) ≡ t → (among f xs ≡ true → Contains xs f) → cond t true (among f xs) ≡ true → Contains (x ∷ xs) f
+told_first : (x f : ℕ) (xs : List ℕ) (t : Bool) → (x == f) ≡ t → (among f xs ≡ true → Contains xs f) → cond t true (among f xs) ≡ true
+    → Contains (x ∷ xs) f
 told_first x f xs true is rest g = (0, omega arith, eqb-true x f is)
 told_first x f xs false is rest g = next_in x f xs (rest g)
 
@@ -78,12 +79,14 @@ same_follows s = record {
 }
 
 -- what is found stays, with further accesses
-found_on : (t u : Space) → Follows t u → 4096 * t.frames ≤ length t.ram → AreApart u.tables u.wrote → (tables : ℕ → Bool) → HoldsOf tables u.tables → (page : ℕ) → page < 2 ^ 20 → (e : Entry)
+found_on : (t u : Space) → Follows t u → 4096 * t.frames ≤ length t.ram → AreApart u.tables u.wrote → (tables : ℕ → Bool)
+    → HoldsOf tables u.tables → (page : ℕ) → page < 2 ^ 20 → (e : Entry)
     → IsFoundBy t.ram t.frames t.cr3 t.pse (λ f. among f t.tables) page e → IsFoundBy u.ram u.frames u.cr3 u.pse tables page e
 found_on t u k room apart tables holds page small e found =
     let still : IsFoundBy u.ram t.frames t.cr3 t.pse (λ f. among f t.tables) page e =
     found_still t.ram u.ram t.frames t.cr3 t.pse (λ f. among f t.tables) page e room small
-    (λ at even within m. k.memory.words at even within (λ c. apart (at / 4096) (k.tables (at / 4096) (among_told (at / 4096) t.tables m)) c)) found in
+    (λ at even within m. k.memory.words at even within
+    (λ c. apart (at / 4096) (k.tables (at / 4096) (among_told (at / 4096) t.tables m)) c)) found in
     let wide : IsFoundBy u.ram t.frames t.cr3 t.pse tables page e = record {
       dir_at = still.dir_at;
       word_at = still.word_at;
@@ -123,10 +126,11 @@ follows_on s t u h k = record {
       let wide : 4096 * t.frames ≤ length t.ram = omega (arith, room, long, frames) in
       elim (k.each wide apart tables holds page small e is) [
         | inr found ↦ inr found
-        | inl old ↦ elim (h.each room (λ f c d. apart f (k.tables f c) (k.wrote f d)) (λ f. among f t.tables) (λ f c. among_is f t.tables c) page small e old) [
-          | inl older ↦ inl older
-          | inr found ↦ inr (found_on t u k wide apart tables holds page small e found)
-        ]
+        | inl old ↦ elim (h.each room (λ f c d. apart f (k.tables f c) (k.wrote f d)) (λ f. among f t.tables)
+            (λ f c. among_is f t.tables c) page small e old) [
+              | inl older ↦ inl older
+              | inr found ↦ inr (found_on t u k wide apart tables holds page small e found)
+            ]
       ];
 }
 
@@ -136,7 +140,8 @@ found_over s t cr3 pse tables page e k room none small found =
     (λ at even within held. k.memory.words at even within (λ c. both_ways (tables (at / 4096)) (none (at / 4096) c) held)) found
 
 -- the same, in the words of the later memory
-found_later : (s t : Space) (tables : ℕ → Bool) (page : ℕ) (e : Entry) → Follows s t → IsFoundBy t.ram s.frames s.cr3 s.pse tables page e → IsFoundBy t.ram t.frames t.cr3 t.pse tables page e
+found_later : (s t : Space) (tables : ℕ → Bool) (page : ℕ) (e : Entry) → Follows s t → IsFoundBy t.ram s.frames s.cr3 s.pse tables page e
+    → IsFoundBy t.ram t.frames t.cr3 t.pse tables page e
 found_later s t tables page e k found =
     subst (λ p. IsFoundBy t.ram t.frames t.cr3 p tables page e) (sym k.pse)
     (subst (λ c. IsFoundBy t.ram t.frames c s.pse tables page e) (sym k.cr3)
@@ -150,7 +155,8 @@ all_found_over s t tables k room none holds all page small e is =
     ]
 
 -- what isn't memory changes nothing of it
-pub aside : (s : Space) (mode : Mode) (pages : ℕ) (visited : List ℕ) (ready : Span) (earlier : Earlier) → ((page : ℕ) → Contains s.visited page → Contains visited page)
+pub aside : (s : Space) (mode : Mode) (pages : ℕ) (visited : List ℕ) (ready : Span) (earlier : Earlier)
+    → ((page : ℕ) → Contains s.visited page → Contains visited page)
     → Follows s (record s { mode = mode; pages = pages; visited = visited; ready = ready; earlier = earlier })
 aside s mode pages visited ready earlier more = record {
   frames = refl;
@@ -180,7 +186,8 @@ table_low : (frames : ℕ) (pse : Bool) (dir f : ℕ) → Contains (table_in fra
 table_low frames pse dir f = by (has dir 1) (not (is_large pse dir)) (nat_lt (dir / 4096) frames) refl
   where
     by : (a b c : Bool) → nat_lt (dir / 4096) frames ≡ c → Contains (cond (a && (b && c)) (dir / 4096 ∷ []) []) f → f < frames
-    by true true true e h = let same = one_of (dir / 4096) f h in let lt : dir / 4096 < frames = grind (arith, nat_tests, e) in omega (arith, same, lt)
+    by true true true e h = let same =
+        one_of (dir / 4096) f h in let lt : dir / 4096 < frames = grind (arith, nat_tests, e) in omega (arith, same, lt)
     by true true false e h = absurd (let lt = h.1 in omega (arith, lt))
     by true false c e h = absurd (let lt = h.1 in omega (arith, lt))
     by false b c e h = absurd (let lt = h.1 in omega (arith, lt))
@@ -193,19 +200,23 @@ read_low ram frames cr3 pse page f = by (nat_le frames (cr3 / 4096)) refl
     rest k (zero, lt, e) root = omega (arith, e, root)
     rest k (suc i, lt, e) root = table_low frames pse (word32 ram (dir_place cr3 page)) f (i, omega (arith, lt), e)
 
-    by : (b : Bool) → nat_le frames (cr3 / 4096) ≡ b → Contains (cond b [] (cr3 / 4096 ∷ table_in frames pse (word32 ram (dir_place cr3 page)))) f → f < frames
+    by : (b : Bool) → nat_le frames (cr3 / 4096) ≡ b
+        → Contains (cond b [] (cr3 / 4096 ∷ table_in frames pse (word32 ram (dir_place cr3 page)))) f → f < frames
     by true e h = absurd (let lt = h.1 in omega (arith, lt))
     by false e h = rest 0 h (grind (arith, nat_tests, e))
 
 -- of those that were read, and more
-more_low : (before read : List ℕ) (frames f : ℕ) → ((g : ℕ) → Contains read g → g < frames) → Contains (before ++ read) f → Contains before f ⊎ (f < frames)
+more_low : (before read : List ℕ) (frames f : ℕ) → ((g : ℕ) → Contains read g → g < frames) → Contains (before ++ read) f
+    → Contains before f ⊎ (f < frames)
 more_low [] read frames f h c = inr (h f c)
 more_low (x ∷ before) read frames f h (zero, lt, e) = inl (zero, omega arith, e)
 more_low (x ∷ before) read frames f h (suc k, lt, e) =
-    elim (more_low before read frames f h (k, omega (arith, lt), e)) [ inl c ↦ inl (suc c.0, (let l = c.1 in omega (arith, l)), c.2) | inr l ↦ inr l ]
+    elim (more_low before read frames f h (k, omega (arith, lt), e))
+    [ inl c ↦ inl (suc c.0, (let l = c.1 in omega (arith, l)), c.2) | inr l ↦ inr l ]
 
 -- the entry of a page leaves the set
-none_follows : (s : Space) (page : ℕ) (read : List ℕ) → ((f : ℕ) → Contains read f → f < s.frames) → Follows s (record s { set = remove s.set page; tables = s.tables ++ read })
+none_follows : (s : Space) (page : ℕ) (read : List ℕ) → ((f : ℕ) → Contains read f → f < s.frames)
+    → Follows s (record s { set = remove s.set page; tables = s.tables ++ read })
 none_follows s page read small = record {
   frames = refl;
   cr3 = refl;
@@ -219,7 +230,8 @@ none_follows s page read small = record {
   each = λ room apart tables holds q lt e is. inl (not_absent _ (get s.set q) e (sym (get-remove nat_cmp_total s.set page q) ∙ is));
 }
 
-one_or_other : (q page : ℕ) (new : Entry) (o : Option Entry) (e : Entry) → cond (q == page) (Some new) o ≡ Some e → ((q ≡ page) × (new ≡ e)) ⊎ (o ≡ Some e)
+one_or_other : (q page : ℕ) (new : Entry) (o : Option Entry) (e : Entry) → cond (q == page) (Some new) o ≡ Some e
+    → ((q ≡ page) × (new ≡ e)) ⊎ (o ≡ Some e)
 one_or_other q page new o e = by_test (q == page) refl
   where
     by_test : (t : Bool) → (q == page) ≡ t → cond t (Some new) o ≡ Some e → ((q ≡ page) × (new ≡ e)) ⊎ (o ≡ Some e)
@@ -227,8 +239,13 @@ one_or_other q page new o e = by_test (q == page) refl
     by_test false is h = inr h
 
 -- the entry of a fresh walk joins it
-walk_follows : (s : Space) (page : ℕ) (e : Entry) (d t : ℕ) (write : Bool) → Contains s.visited page → fresh s.ram s.frames s.cr3 s.pse page ≡ Found e d t
-    → Follows s (record s { ram = flagged s.ram d t write; set = insert s.set page (dirtied e write); tables = s.tables ++ tables_read s.ram s.frames s.cr3 s.pse page })
+walk_follows : (s : Space) (page : ℕ) (e : Entry) (d t : ℕ) (write : Bool) → Contains s.visited page
+    → fresh s.ram s.frames s.cr3 s.pse page ≡ Found e d t
+    → Follows s (record s {
+      ram = flagged s.ram d t write;
+      set = insert s.set page (dirtied e write);
+      tables = s.tables ++ tables_read s.ram s.frames s.cr3 s.pse page;
+    })
 walk_follows s page e d t write gone is =
     let even = fresh_even s.ram s.frames s.cr3 s.pse page e d t is in
     record {
@@ -242,7 +259,8 @@ walk_follows s page e d t write gone is =
       others = λ all at lt free clear.
           let noted = words_noted s.ram s.frames s.cr3 s.pse page e d t (all page gone) is in
           flagged_other s.ram d t write even.0 even.1 at lt (λ g. clear (there at d g noted.0)) (λ g. clear (there at t g noted.1));
-      low = λ frame c. more_low s.tables (tables_read s.ram s.frames s.cr3 s.pse page) s.frames frame (λ f h. read_low s.ram s.frames s.cr3 s.pse page f h) c;
+      low = λ frame c. more_low s.tables (tables_read s.ram s.frames s.cr3 s.pse page) s.frames frame
+          (λ f h. read_low s.ram s.frames s.cr3 s.pse page f h) c;
       each = λ room apart tables holds q small found has.
           elim (one_or_other q page (dirtied e write) (get s.set q) found (got q ∙ has)) [
             | inr old ↦ inl old
@@ -253,12 +271,16 @@ walk_follows s page e d t write gone is =
           ];
     }
   where
-    there : (at place : ℕ) → at ≡ place → Contains (tables_read s.ram s.frames s.cr3 s.pse page) (place / 4096) → Contains (s.tables ++ tables_read s.ram s.frames s.cr3 s.pse page) (at / 4096)
+    there : (at place : ℕ) → at ≡ place → Contains (tables_read s.ram s.frames s.cr3 s.pse page) (place / 4096)
+        → Contains (s.tables ++ tables_read s.ram s.frames s.cr3 s.pse page) (at / 4096)
     there at place g c =
-        Contains-append_right s.tables (tables_read s.ram s.frames s.cr3 s.pse page) (at / 4096) (subst (λ n. Contains (tables_read s.ram s.frames s.cr3 s.pse page) (n / 4096)) (sym g) c)
+        Contains-append_right s.tables (tables_read s.ram s.frames s.cr3 s.pse page) (at / 4096)
+        (subst (λ n. Contains (tables_read s.ram s.frames s.cr3 s.pse page) (n / 4096)) (sym g) c)
 
     got : (q : ℕ) → cond (q == page) (Some (dirtied e write)) (get s.set q) ≡ get (insert s.set page (dirtied e write)) q
-    got q = sym (get-insert nat_cmp_total s.set page (dirtied e write) q ∙ ap (λ c. cond c (Some (dirtied e write)) (get s.set q)) (unsigned_tied q page))
+    got q =
+        sym (get-insert nat_cmp_total s.set page (dirtied e write) q ∙ ap (λ c. cond c (Some (dirtied e write)) (get s.set q))
+        (unsigned_tied q page))
 
 -- what a decision leaves
 abbrev Decides : Space → ℕ → Decision → Type 0
@@ -268,20 +290,26 @@ either : (P : Decision → Type 0) (test : Bool) (a b : Decision) → P a → P 
 either P true a b h k = h
 either P false a b h k = k
 
-walk_decides : (s : Space) (fetch : Bool) (page at : ℕ) (access : Access) (w : Walk) → Contains s.visited page → fresh s.ram s.frames s.cr3 s.pse page ≡ w → Decides s page (by_walk (tables_of s) fetch at access w)
-walk_decides s fetch page at access Absent gone is = none_follows s page (tables_read s.ram s.frames s.cr3 s.pse page) (λ f h. read_low s.ram s.frames s.cr3 s.pse page f h)
-walk_decides s fetch page at access Beyond gone is = none_follows s page (tables_read s.ram s.frames s.cr3 s.pse page) (λ f h. read_low s.ram s.frames s.cr3 s.pse page f h)
-walk_decides s fetch page at access Reserved gone is = none_follows s page (tables_read s.ram s.frames s.cr3 s.pse page) (λ f h. read_low s.ram s.frames s.cr3 s.pse page f h)
+walk_decides : (s : Space) (fetch : Bool) (page at : ℕ) (access : Access) (w : Walk) → Contains s.visited page
+    → fresh s.ram s.frames s.cr3 s.pse page ≡ w → Decides s page (by_walk (tables_of s) fetch at access w)
+walk_decides s fetch page at access Absent gone is =
+    none_follows s page (tables_read s.ram s.frames s.cr3 s.pse page) (λ f h. read_low s.ram s.frames s.cr3 s.pse page f h)
+walk_decides s fetch page at access Beyond gone is =
+    none_follows s page (tables_read s.ram s.frames s.cr3 s.pse page) (λ f h. read_low s.ram s.frames s.cr3 s.pse page f h)
+walk_decides s fetch page at access Reserved gone is =
+    none_follows s page (tables_read s.ram s.frames s.cr3 s.pse page) (λ f h. read_low s.ram s.frames s.cr3 s.pse page f h)
 walk_decides s fetch page at access (Found entry d t) gone is =
     let none = none_follows s page (tables_read s.ram s.frames s.cr3 s.pse page) (λ f h. read_low s.ram s.frames s.cr3 s.pse page f h) in
     either (Decides s page) (not (grants entry access s.wp)) _ _ none
     (either (Decides s page) (is_barred s.mode fetch access.user entry.page entry.frame) _ _ none
     (either (Decides s page) (marks_own (tables_of s) d t access.write) _ _ none (walk_follows s page entry d t access.write gone is)))
 
-decided_follows : (s : Space) (fetch : Bool) (page at : ℕ) (access : Access) → Contains s.visited page → Decides s page (decided (tables_of s) fetch page at access)
+decided_follows : (s : Space) (fetch : Bool) (page at : ℕ) (access : Access) → Contains s.visited page
+    → Decides s page (decided (tables_of s) fetch page at access)
 unfolding decided
 decided_follows s fetch page at access gone =
-    either (Decides s page) (walks_text (tables_of s) page) _ _ (none_follows s page (tables_read s.ram s.frames s.cr3 s.pse page) (λ f h. read_low s.ram s.frames s.cr3 s.pse page f h))
+    either (Decides s page) (walks_text (tables_of s) page) _ _
+    (none_follows s page (tables_read s.ram s.frames s.cr3 s.pse page) (λ f h. read_low s.ram s.frames s.cr3 s.pse page f h))
     (walk_decides s fetch page at access (fresh s.ram s.frames s.cr3 s.pse page) gone refl)
 
 -- either way memory is as it is
@@ -289,29 +317,35 @@ either_follows : (s u : Space) (test : Bool) (a b : Touch) → Follows s u → F
 either_follows s u true a b h = h
 either_follows s u false a b h = h
 
-entry_follows : (s : Space) (fetch : Bool) (page at : ℕ) (access : Access) (o : Option Entry) → Contains s.visited page → Follows s (by_entry s fetch page at access o).1
+entry_follows : (s : Space) (fetch : Bool) (page at : ℕ) (access : Access) (o : Option Entry) → Contains s.visited page
+    → Follows s (by_entry s fetch page at access o).1
 entry_follows s fetch page at access None gone = decided_follows s fetch page at access gone
-entry_follows s fetch page at access (Some entry) gone = either_follows s s (is_barred s.mode fetch access.user page entry.frame) (Stop stops.TextMapped) Ready (same_follows s)
+entry_follows s fetch page at access (Some entry) gone =
+    either_follows s s (is_barred s.mode fetch access.user page entry.frame) (Stop stops.TextMapped) Ready (same_follows s)
 
 page_follows : (s : Space) (fetch : Bool) (page at : ℕ) (access : Access) → Follows s (page_uses s fetch page at access).1
 unfolding page_uses
 page_follows s fetch page at access =
     let seen : Space = record s { pages = s.pages + 1; visited = s.visited ++ page ∷ [] } in
-    follows_on s seen _ (aside s s.mode (s.pages + 1) (s.visited ++ page ∷ []) s.ready s.earlier (λ p c. Contains-append_left s.visited (page ∷ []) p c))
+    follows_on s seen _ (aside s s.mode (s.pages + 1) (s.visited ++ page ∷ []) s.ready s.earlier
+    (λ p c. Contains-append_left s.visited (page ∷ []) p c))
     (entry_follows seen fetch page at access (usable (get s.set page) access s.wp) (Contains-push s.visited page))
 
 -- ---- one range
 
-going : (s : Space) (met : Touch) (t : Space) (f : Space → Touch × Space) → Follows s t → ((u : Space) → Follows u (f u).1) → Follows s (go_on met t f).1
+going : (s : Space) (met : Touch) (t : Space) (f : Space → Touch × Space) → Follows s t → ((u : Space) → Follows u (f u).1)
+    → Follows s (go_on met t f).1
 going s Ready t f h k = follows_on s t (f t).1 h (k t)
 going s (Fault code cr2) t f h k = h
 going s (Stop stop) t f h k = h
 
-then_follows : (s : Space) (p : Touch × Space) (f : Space → Touch × Space) → Follows s p.1 → ((u : Space) → Follows u (f u).1) → Follows s (and_then p f).1
+then_follows : (s : Space) (p : Touch × Space) (f : Space → Touch × Space) → Follows s p.1 → ((u : Space) → Follows u (f u).1)
+    → Follows s (and_then p f).1
 then_follows s p f h k = going s p.0 p.1 f h k
 
 unready_follows : (s : Space) → Follows s (unready s)
-unready_follows s = aside s s.mode s.pages s.visited (record { start = 0; len = 0; write = false }) (record { start = s.ready.start; len = s.ready.len; set = s.set }) (λ page c. c)
+unready_follows s = aside s s.mode s.pages s.visited (record { start = 0; len = 0; write = false })
+    (record { start = s.ready.start; len = s.ready.len; set = s.set }) (λ page c. c)
 
 noted_more : (write : Bool) (wrote more : List ℕ) (frame : ℕ) → Contains wrote frame → Contains (cond write (wrote ++ more) wrote) frame
 noted_more true wrote more frame h = Contains-append_left wrote more frame h
@@ -337,12 +371,15 @@ choice s false a b h k = k
 
 second_follows : (at len : ℕ) (access : Access) (s : Space) → Follows s (second_page at len access s).1
 second_follows at len access s =
-    choice s ((at + len - 1) / 4096 == at / 4096) _ _ (same_follows s) (page_follows s false ((at + len - 1) / 4096) ((at + len - 1) / 4096 * 4096) access)
+    choice s ((at + len - 1) / 4096 == at / 4096) _ _ (same_follows s)
+    (page_follows s false ((at + len - 1) / 4096) ((at + len - 1) / 4096 * 4096) access)
 
 pages_follow : (at len : ℕ) (access : Access) (s : Space) → Follows s (by_pages at len access s).1
 pages_follow at len access s =
-    then_follows s (page_uses s false (at / 4096) at access) (λ t. and_then (second_page at len access t) (made_ready at len access.write)) (page_follows s false (at / 4096) at access)
-    (λ t. then_follows t (second_page at len access t) (made_ready at len access.write) (second_follows at len access t) (ready_follows at len access.write))
+    then_follows s (page_uses s false (at / 4096) at access) (λ t. and_then (second_page at len access t) (made_ready at len access.write))
+    (page_follows s false (at / 4096) at access)
+    (λ t. then_follows t (second_page at len access t) (made_ready at len access.write) (second_follows at len access t)
+    (ready_follows at len access.write))
 
 window_follows : (w : Option reason.Stop) (at len : ℕ) (access : Access) (s : Space) → Follows s (by_window w at len access s).1
 window_follows None at len access s = pages_follow at len access s
@@ -374,7 +411,8 @@ kept_byte wrote x y p v noted h =
     let more = long_with y p v in
     record {
       long = omega (arith, long, more);
-      bytes = λ k lt free. byte_other y p v k (omega (arith, lt, long)) (λ is. free (subst (λ n. Contains wrote (n / 4096)) (sym is) noted)) ∙ h.bytes k lt free;
+      bytes = λ k lt free. byte_other y p v k (omega (arith, lt, long)) (λ is. free (subst (λ n. Contains wrote (n / 4096)) (sym is) noted))
+          ∙ h.bytes k lt free;
     }
 
 kept_same : (wrote : List ℕ) (x : List ℕ) → Keeps wrote x x
@@ -384,9 +422,11 @@ same_page : (at k : ℕ) → at % 4 ≡ 0 → k < 4 → (at + k) / 4096 ≡ at /
 same_page at k even lt = omega (arith, even, lt)
 
 kept_follows : (wrote : List ℕ) (x y : List ℕ) → Keeps wrote x y → MemoryFollows wrote x y
-kept_follows wrote x y h = record { long = h.long; words = λ at even room free. flags_by (word32 x at) (word32 y at) (same at even room free) }
+kept_follows wrote x y h =
+    record { long = h.long; words = λ at even room free. flags_by (word32 x at) (word32 y at) (same at even room free) }
   where
-    one : (at k : ℕ) → at % 4 ≡ 0 → at + 4 ≤ length x → k < 4 → (Contains wrote (at / 4096) → ⊥) → bytes.byte y (at + k) ≡ bytes.byte x (at + k)
+    one : (at k : ℕ) → at % 4 ≡ 0 → at + 4 ≤ length x → k < 4 → (Contains wrote (at / 4096) → ⊥)
+        → bytes.byte y (at + k) ≡ bytes.byte x (at + k)
     one at k even room lt free = h.bytes (at + k) (omega (arith, room, lt)) (λ c. free (subst (Contains wrote) (same_page at k even lt) c))
 
     same : (at : ℕ) → at % 4 ≡ 0 → at + 4 ≤ length x → (Contains wrote (at / 4096) → ⊥) → word32 y at ≡ word32 x at
@@ -406,7 +446,8 @@ IsNoted s byte = Contains s.wrote (place s byte / 4096)
 first : (s : Space) (at n : ℕ) → 0 < n → ((k : ℕ) → k < n → IsNoted s (at + k)) → IsNoted s at
 first s at n lt h = let e : at + 0 ≡ at = omega arith in subst (IsNoted s) e (h 0 lt)
 
-saved_memory : (s : Space) (at : ℕ) (size : Size) (v : ℕ) → ((k : ℕ) → k < size_in_bytes size → IsNoted s (at + k)) → Keeps s.wrote s.ram (written s at size v)
+saved_memory : (s : Space) (at : ℕ) (size : Size) (v : ℕ) → ((k : ℕ) → k < size_in_bytes size → IsNoted s (at + k))
+    → Keeps s.wrote s.ram (written s at size v)
 unfolding written
 saved_memory s at Byte v h = kept_byte s.wrote s.ram s.ram (place s at) (v % 256) (first s at 1 (omega arith) h) (kept_same s.wrote s.ram)
 saved_memory s at Word v h =
@@ -419,7 +460,8 @@ saved_memory s at Long v h =
     (kept_byte s.wrote s.ram s.ram (place s at) (v % 256) (first s at 4 (omega arith) h) (kept_same s.wrote s.ram))))
 
 -- a write where the frames of all its bytes are noted
-pub saved_follows : (s : Space) (at : ℕ) (size : Size) (v : ℕ) → ((k : ℕ) → k < size_in_bytes size → IsNoted s (at + k)) → Follows s (saved s at size v)
+pub saved_follows : (s : Space) (at : ℕ) (size : Size) (v : ℕ) → ((k : ℕ) → k < size_in_bytes size → IsNoted s (at + k))
+    → Follows s (saved s at size v)
 saved_follows s at size v h = record {
   frames = refl;
   cr3 = refl;

@@ -25,13 +25,16 @@ rests_still cpu board next same h = record {
   none = ap (λ (v : Option ℕ). if has cpu.regs.flags.bits 512 && not false then v else None) same ∙ h.none;
 }
 
-rests_first : (n : ℕ) (cpu : Cpu) (board : Board) (script : Events) (t : ℕ) → 0 < n → SleepsThrough cpu board script t n → IsResting cpu board
+rests_first : (n : ℕ) (cpu : Cpu) (board : Board) (script : Events) (t : ℕ) → 0 < n → SleepsThrough cpu board script t n
+    → IsResting cpu board
 unfolding board_steps
 rests_first n cpu board script t some h = h.rests 0 some
 
-sleeps_later : EventsComeLater → (cpu : Cpu) (board : Board) (script : Events) (t j : ℕ) → SleepsThrough cpu board script t (suc j) → SleepsThrough cpu (board_step board) script (t + 1) j
+sleeps_later : EventsComeLater → (cpu : Cpu) (board : Board) (script : Events) (t j : ℕ) → SleepsThrough cpu board script t (suc j)
+    → SleepsThrough cpu (board_step board) script (t + 1) j
 unfolding board_steps
-sleeps_later later cpu board script t j h = record { no_event = (later script t j h.no_event).later; rests = λ i l. h.rests (suc i) (omega (arith, l)) }
+sleeps_later later cpu board script t j h =
+    record { no_event = (later script t j h.no_event).later; rests = λ i l. h.rests (suc i) (omega (arith, l)) }
 
 each_rests : EventsComeLater → EachRests
 unfolding step_of
@@ -42,14 +45,22 @@ each_rests later s cpu ram board t j h =
           let b = resting cpu ram whole board (t + 1) in
           let space = space_at_start s.mode s.frames b.cpu ram set in
           ap (λ (d : Board). stepped s (record b { board = d; set = set })) ((later s.script t j h.no_event).no_event board)
-          ∙ (ap (λ (o : Option ℕ). by_interrupt s o (unheld (record b { set = set })) space) first.none ∙ halted_works s (unheld (record b { set = set })) space first.halted);
+          ∙ (ap (λ (o : Option ℕ). by_interrupt s o (unheld (record b { set = set })) space) first.none ∙ halted_works s
+          (unheld (record b { set = set })) space first.halted);
       later = sleeps_later later cpu board s.script t j h;
     }
 
 all_rest : EachRests → AllRest
 unfolding Steps board_steps
-all_rest each zero s cpu ram whole set board t h allowed =
-    (resting cpu ram set (board_step board) (t + 1 + 1), nothing, [], allowed, (each s cpu ram board t 0 h).goes whole set, (refl, refl), refl)
+all_rest each zero s cpu ram whole set board t h allowed = (
+  resting cpu ram set (board_step board) (t + 1 + 1),
+  nothing,
+  [],
+  allowed,
+  (each s cpu ram board t 0 h).goes whole set,
+  (refl, refl),
+  refl,
+)
 all_rest each (suc k) s cpu ram whole set board t h allowed =
     let now = each s cpu ram board t (suc k) h in
     let rest = all_rest each k s cpu ram set set (board_step board) (t + 1) now.later (record { each = λ page e is. inl is }) in (
@@ -58,7 +69,8 @@ all_rest each (suc k) s cpu ram whole set board t h allowed =
       nothing ∷ replicate k nothing,
       allowed,
       now.goes whole set,
-      subst (λ (n : ℕ). Steps s (resting cpu ram set (board_step board) (t + 1 + 1)) (set ∷ replicate k set) (nothing ∷ replicate k nothing) (resting cpu ram set (board_steps (suc k) (board_step board)) n)) (omega arith) rest,
+      subst (λ (n : ℕ). Steps s (resting cpu ram set (board_step board) (t + 1 + 1)) (set ∷ replicate k set) (nothing ∷ replicate k nothing)
+          (resting cpu ram set (board_steps (suc k) (board_step board)) n)) (omega arith) rest,
       refl,
     )
 
@@ -66,13 +78,15 @@ nothing_is_seen : NothingIsSeen
 nothing_is_seen zero = refl
 nothing_is_seen (suc k) = nothing_is_seen k
 
-rests_before : StepsAreQuiet → (i n : ℕ) (cpu : Cpu) (board : Board) (script : Events) (t : ℕ) → IsResting cpu board → comes_within board script t n ≡ false → i < n → IsResting cpu (board_steps i board)
+rests_before : StepsAreQuiet → (i n : ℕ) (cpu : Cpu) (board : Board) (script : Events) (t : ℕ) → IsResting cpu board
+    → comes_within board script t n ≡ false → i < n → IsResting cpu (board_steps i board)
 unfolding board_steps
 rests_before quiet zero n cpu board script t h none l = h
 rests_before quiet (suc i) zero cpu board script t h none l = absurd (omega (arith, l))
 rests_before quiet (suc i) (suc j) cpu board script t h none l =
     let q = quiet board script t j none in
-    rests_before quiet i j cpu (board_step board) script (t + 1) (rests_still cpu board (board_step board) q.same_vector h) q.later (omega (arith, l))
+    rests_before quiet i j cpu (board_step board) script (t + 1) (rests_still cpu board (board_step board) q.same_vector h)
+    q.later (omega (arith, l))
 
 quiet_steps : StepsAreQuiet → QuietSteps
 unfolding comes_within
@@ -81,7 +95,8 @@ quiet_steps quiet n cpu board script t h none = record {
   rests = λ i l. rests_before quiet i n cpu board script t h none l;
 }
 
-rests_by : (cpu : Cpu) (board next : Board) (edge : Bool) → IsResting cpu board → IsResting cpu (with_timer_edge board) → vector next ≡ (if edge then vector (with_timer_edge board) else vector board) → IsResting cpu next
+rests_by : (cpu : Cpu) (board next : Board) (edge : Bool) → IsResting cpu board → IsResting cpu (with_timer_edge board)
+    → vector next ≡ (if edge then vector (with_timer_edge board) else vector board) → IsResting cpu next
 rests_by cpu board next true h e is = rests_still cpu (with_timer_edge board) next is e
 rests_by cpu board next false h e is = rests_still cpu board next is h
 

@@ -30,12 +30,15 @@ leaves : {E A : Type 0} (s : Space) (o : Outcome E A) → LeavesOpen 0 0 s o →
 leaves s (Ok x) h = h.0
 leaves s (Err e) h = h
 
-after : {E A B : Type 0} (a l b k : ℕ) (s : Space) (o : Outcome E A) (f : A → Work E B) → LeavesOpen a l s o → ((x : A) (t : Space) → IsOpen a l t → LeavesOpen b k t (f x t)) → LeavesOpen b k s (on_value o f)
+after : {E A B : Type 0} (a l b k : ℕ) (s : Space) (o : Outcome E A) (f : A → Work E B) → LeavesOpen a l s o
+    → ((x : A) (t : Space) → IsOpen a l t → LeavesOpen b k t (f x t)) → LeavesOpen b k s (on_value o f)
 after a l b k s (Ok x) f h g = open_on b k s x.1 (f x.0 x.1) h.0 (g x.0 x.1 h.1)
 after a l b k s (Err e) f h g = h
 
-keeps : {E : Type 0} {d : Denials E} {user : Bool} {A : Type 0} {r t : Room} {w : Work E A} → Made d user A r t w → (s : Space) → IsOpen r.0 r.1 s → LeavesOpen t.0 t.1 s (w s)
-keeps (Made.follows {s = r} {t = t} {m = m} {f = f} h k) s ready = after r.0 r.1 t.0 t.1 s (m s) f (keeps h s ready) (λ x u noted. keeps (k x) u noted)
+keeps : {E : Type 0} {d : Denials E} {user : Bool} {A : Type 0} {r t : Room} {w : Work E A} → Made d user A r t w → (s : Space)
+    → IsOpen r.0 r.1 s → LeavesOpen t.0 t.1 s (w s)
+keeps (Made.follows {s = r} {t = t} {m = m} {f = f} h k) s ready =
+    after r.0 r.1 t.0 t.1 s (m s) f (keeps h s ready) (λ x u noted. keeps (k x) u noted)
 keeps (Made.given x) s ready = (same_follows s, ready)
 keeps (Made.refused e) s ready = same_follows s
 keeps (Made.tested e true) s ready = (same_follows s, ready)

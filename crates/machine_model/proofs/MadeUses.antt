@@ -15,7 +15,8 @@ use Rattle.descriptors.proofs.Made.{Made, Room}
 use Rattle.sys_exec.proofs.MadeRows.{sys_steps}
 use Rattle.event_entry.proofs.MadeDeliveries.{delivered_steps}
 
-keeps : {E : Type 0} {d : Denials E} {user : Bool} {A : Type 0} {r t : Room} {w : Work E A} (ends : E → Bool) → ((stop : reason.Stop) → ends (d.stop stop) ≡ true) → Made d user A r t w → Keeps ends user w
+keeps : {E : Type 0} {d : Denials E} {user : Bool} {A : Type 0} {r t : Room} {w : Work E A} (ends : E → Bool)
+    → ((stop : reason.Stop) → ends (d.stop stop) ≡ true) → Made d user A r t w → Keeps ends user w
 keeps ends stops (Made.follows h k) = then_keeps (keeps ends stops h) (λ x. keeps ends stops (k x))
 keeps {user = user} ends stops (Made.given x) = gives_keeps ends user x
 keeps {user = user} ends stops (Made.refused e) = refuses_keeps ends user e
@@ -24,7 +25,8 @@ keeps {user = user} ends stops (Made.reading at size) = reads_keeps ends user at
 keeps {user = user} ends stops (Made.reading_earlier at size) = reads_earlier_keeps ends user at size
 keeps {user = user} ends stops (Made.writing at size v low high) = writes_keeps ends user at size v
 keeps {d = d} {user = user} ends stops (Made.reached at len access level some) = reaching_keeps ends d user at len access stops level some
-keeps {d = d} {user = user} ends stops (Made.opened at len access level write some short) = reaching_keeps ends d user at len access stops level some
+keeps {d = d} {user = user} ends stops (Made.opened at len access level write some short) =
+    reaching_keeps ends d user at len access stops level some
 keeps ends stops (Made.closed h) = keeps ends stops h
 keeps ends stops (Made.chosen test h k) = if_keeps test (keeps ends stops h) (keeps ends stops k)
 

@@ -21,7 +21,8 @@ pub flags_by : (w x : ℕ) → x ≡ w → HasMoreFlags w x
 flags_by w x e = subst (HasMoreFlags w) (sym e) (flags_same w)
 
 pub flags_on : (w x y : ℕ) → HasMoreFlags w x → HasMoreFlags x y → HasMoreFlags w y
-flags_on w x y h k = record { low = k.low ∙ h.low; high = k.high ∙ h.high; accessed = λ e. k.accessed (h.accessed e); dirty = λ e. k.dirty (h.dirty e) }
+flags_on w x y h k =
+    record { low = k.low ∙ h.low; high = k.high ∙ h.high; accessed = λ e. k.accessed (h.accessed e); dirty = λ e. k.dirty (h.dirty e) }
 
 or_32 : (n : ℕ) → bit_or n 32 + n / 32 % 2 * 32 ≡ n + 32
 or_32 n = let a = or_add_and n 32 in let b : bit_and n 32 ≡ n / 32 % 2 * 32 = and_pow n 5 in omega (arith, a, b)
@@ -115,7 +116,8 @@ byte_other x p v k lt other =
 pub memory_same : (wrote : List ℕ) (x : List ℕ) → MemoryFollows wrote x x
 memory_same wrote x = record { long = omega arith; words = λ at even room free. flags_same (word32 x at) }
 
-pub memory_on : (w v : List ℕ) (x y z : List ℕ) → ((frame : ℕ) → Contains w frame → Contains v frame) → MemoryFollows w x y → MemoryFollows v y z → MemoryFollows v x z
+pub memory_on : (w v : List ℕ) (x y z : List ℕ) → ((frame : ℕ) → Contains w frame → Contains v frame) → MemoryFollows w x y
+    → MemoryFollows v y z → MemoryFollows v x z
 memory_on w v x y z more h k =
     let one = h.long in
     let two = k.long in
@@ -138,7 +140,8 @@ one_marked w x p v aligned h = record { long = long_with x p v; words = λ at ev
         let three = byte_other x p v (at + 3) (omega (arith, room)) (λ g. omega (arith, g, even, aligned)) in
         omega (arith, one, two, three)
 
-    by_place : (at : ℕ) → at % 4 ≡ 0 → at + 4 ≤ length x → (same : Bool) → (at == p) ≡ same → HasMoreFlags (word32 x at) (word32 (with_byte x p v) at)
+    by_place : (at : ℕ) → at % 4 ≡ 0 → at + 4 ≤ length x → (same : Bool) → (at == p) ≡ same
+        → HasMoreFlags (word32 x at) (word32 (with_byte x p v) at)
     by_place at even room true e =
         let is = eqb-true at p e in
         let now : byte (with_byte x p v) at ≡ v = ap (byte (with_byte x p v)) is ∙ byte-with_byte x p v (omega (arith, room, is)) in
@@ -175,7 +178,8 @@ module _ (x : List ℕ) (d t : ℕ) (write : Bool) (d_even : d % 4 ≡ 0) (t_eve
 
   pub flagged_follows : (w : List ℕ) → MemoryFollows w x (flagged x d t write)
   unfolding flagged
-  flagged_follows w = memory_on w w x marked final (λ f c. c) (one_marked w x d (bit_or (byte x d) 32) d_even (marked_byte false (byte x d))) (second w)
+  flagged_follows w =
+      memory_on w w x marked final (λ f c. c) (one_marked w x d (bit_or (byte x d) 32) d_even (marked_byte false (byte x d))) (second w)
 
   -- both words have the accessed flag then
   pub flagged_dir : d + 4 ≤ length x → has (word32 (flagged x d t write) d) 32 ≡ true
@@ -203,11 +207,13 @@ module _ (x : List ℕ) (d t : ℕ) (write : Bool) (d_even : d % 4 ≡ 0) (t_eve
   flagged_dirty is room =
       let long = long_with x d (bit_or (byte x d) 32) in
       let now : byte final t ≡ bit_or (byte marked t) (flags_of write) = byte-with_byte marked t _ (omega (arith, room, long)) in
-      word_has_64 final t ∙ (ap (λ n. has n 64) now ∙ (ap (λ w. has (bit_or (byte marked t) (flags_of w)) 64) is ∙ marked_dirty (byte marked t)))
+      word_has_64 final t ∙ (ap (λ n. has n 64) now
+      ∙ (ap (λ w. has (bit_or (byte marked t) (flags_of w)) 64) is ∙ marked_dirty (byte marked t)))
 
   -- and nothing else changes
   pub flagged_other : (k : ℕ) → k < length x → (k ≡ d → ⊥) → (k ≡ t → ⊥) → byte (flagged x d t write) k ≡ byte x k
   unfolding flagged
   flagged_other k lt not_dir not_word =
       let long = long_with x d (bit_or (byte x d) 32) in
-      byte_other marked t (bit_or (byte marked t) (flags_of write)) k (omega (arith, lt, long)) not_word ∙ byte_other x d (bit_or (byte x d) 32) k lt not_dir
+      byte_other marked t (bit_or (byte marked t) (flags_of write)) k (omega (arith, lt, long)) not_word
+      ∙ byte_other x d (bit_or (byte x d) 32) k lt not_dir

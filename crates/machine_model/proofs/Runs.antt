@@ -15,9 +15,17 @@ use Rattle.machine_model.proofs.Splits.{Split, At_end, Within, split_of}
 pub steps_join : StepsJoin
 unfolding Steps
 steps_join m old mid new [] more reports later first rest =
-    subst (λ (l : List Report). Steps m old more (l ++ later) new) (sym first.0) (subst (λ (b : State). Steps m b more later new) first.1 rest)
-steps_join m old mid new (set ∷ sets) more reports later first rest =
-    (first.0, first.1, first.2 ++ later, first.3, first.4, steps_join m first.0 mid new sets more first.2 later first.5 rest, ap (λ (l : List Report). l ++ later) first.6)
+    subst (λ (l : List Report). Steps m old more (l ++ later) new) (sym first.0)
+    (subst (λ (b : State). Steps m b more later new) first.1 rest)
+steps_join m old mid new (set ∷ sets) more reports later first rest = (
+  first.0,
+  first.1,
+  first.2 ++ later,
+  first.3,
+  first.4,
+  steps_join m first.0 mid new sets more first.2 later first.5 rest,
+  ap (λ (l : List Report). l ++ later) first.6,
+)
 
 -- no step yet
 pub no_steps : (m : Setting) (b : State) → Steps m b [] [] b
@@ -25,7 +33,8 @@ unfolding Steps
 no_steps m b = (refl, refl)
 
 -- one step
-pub steps_one : (m : Setting) (old new : State) (set : Set) (now : Report) → Loosened m old set → step_of m old set ≡ Went now new → Steps m old (set ∷ []) (now ∷ []) new
+pub steps_one : (m : Setting) (old new : State) (set : Set) (now : Report) → Loosened m old set → step_of m old set ≡ Went now new
+    → Steps m old (set ∷ []) (now ∷ []) new
 unfolding Steps
 steps_one m old new set now allowed is = (new, now, [], allowed, is, (refl, refl), refl)
 
@@ -36,14 +45,17 @@ went_there a b x y is = cc
 -- what was seen in two runs
 pub trace_join : (reports later : List Report) → trace_of (reports ++ later) ≡ trace_of reports ++ trace_of later
 trace_join [] later = refl
-trace_join (r ∷ reports) later = ap (λ (l : List Item). r.items ++ l) (trace_join reports later) ∙ sym (append_assoc r.items (trace_of reports) (trace_of later))
+trace_join (r ∷ reports) later =
+    ap (λ (l : List Item). r.items ++ l) (trace_join reports later) ∙ sym (append_assoc r.items (trace_of reports) (trace_of later))
 
-pub addresses_join : (sites : List Site) (reports later : List Report) → direct_addresses sites (reports ++ later) ≡ direct_addresses sites reports ++ direct_addresses sites later
+pub addresses_join : (sites : List Site) (reports later : List Report) → direct_addresses sites (reports ++ later) ≡ direct_addresses sites
+    reports ++ direct_addresses sites later
 addresses_join sites reports later = flat_map-append (λ (r : Report). direct_in sites r.completed) reports later
 
 pub counts_join : CountsJoin
 counts_join sites reports later =
-    ap (λ (l : List ℕ). length l) (addresses_join sites reports later) ∙ length-append (direct_addresses sites reports) (direct_addresses sites later)
+    ap (λ (l : List ℕ). length l) (addresses_join sites reports later)
+    ∙ length-append (direct_addresses sites reports) (direct_addresses sites later)
 
 pub passed_join : (p : ℕ) (front back : List ℕ) → passed_on p (front ++ back) ≡ passed_on (passed_on p front) back
 passed_join p [] back = refl
@@ -86,20 +98,28 @@ ends_there m old a b (set ∷ sets) x y s t =
     let same : s.0 ≡ t.0 = went_there s.1 t.1 s.0 t.0 (sym s.4 ∙ t.4) in
     ends_there m t.0 a b sets s.2 t.2 (subst (λ (z : State). Steps m z sets s.2 a) same s.5) t.5
 
-kept_by : (m : Setting) (old mid : State) (sets : List Set) (set : Set) (reports : List Report) → Steps m old sets reports mid → Kept m old sets
+kept_by : (m : Setting) (old mid : State) (sets : List Set) (set : Set) (reports : List Report)
+    → Steps m old sets reports mid → Kept m old sets
     → (Roomy (steps_by m old sets) → IsKept m (steps_by m old sets) mid set)
-    → (front : List Set) (x : Set) (back : List Set) (seen : List Report) (now : State) → Split sets set front x back → Steps m old front seen now
+    → (front : List Set) (x : Set) (back : List Set) (seen : List Report) (now : State) → Split sets set front x back
+    → Steps m old front seen now
     → Roomy (steps_by m old front) → IsKept m (steps_by m old front) now x
 kept_by m old mid sets set reports steps kept last front x back seen now (At_end same is none) there roomy =
-    let state : mid ≡ now = ends_there m old mid now sets reports seen steps (subst (λ (l : List Set). Steps m old l seen now) same there) in
+    let state : mid ≡ now =
+    ends_there m old mid now sets reports seen steps (subst (λ (l : List Set). Steps m old l seen now) same there) in
     subst (λ (l : List Set). IsKept m (steps_by m old l) now x) (sym same)
     (subst (λ (b : State). IsKept m (steps_by m old sets) b x) state
-    (subst (λ (s : Set). IsKept m (steps_by m old sets) mid s) (sym is) (last (subst (λ (l : List Set). Roomy (steps_by m old l)) same roomy))))
-kept_by m old mid sets set reports steps kept last front x back seen now (Within c same rest) there roomy = kept.each front x c seen now same there roomy
+    (subst (λ (s : Set). IsKept m (steps_by m old sets) mid s) (sym is)
+    (last (subst (λ (l : List Set). Roomy (steps_by m old l)) same roomy))))
+kept_by m old mid sets set reports steps kept last front x back seen now (Within c same rest) there roomy =
+    kept.each front x c seen now same there roomy
 
 pub kept_on : KeptOn
 kept_on m old mid sets set reports steps kept last =
-    record { each = λ front x back seen now e there roomy. kept_by m old mid sets set reports steps kept last front x back seen now (split_of sets set front x back e) there roomy }
+    record {
+      each = λ front x back seen now e there roomy. kept_by m old mid sets set reports steps kept last front x back seen now
+          (split_of sets set front x back e) there roomy;
+    }
 
 pub kept_before : KeptBefore
 kept_before m old sets more kept =

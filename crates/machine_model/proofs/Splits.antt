@@ -25,4 +25,5 @@ module _ {X : Type 0} where
   split_of [] x [] y b e = At_end refl (sym (heads x y [] b e)) (sym (tails x y [] b e))
   split_of [] x (z ∷ a) y b e = absurd (none_some a y b (tails x z [] (a ++ y ∷ b) e))
   split_of (w ∷ l) x [] y b e = Within l (ap (λ (t : X). t ∷ l) (heads w y (l ++ x ∷ []) b e)) (sym (tails w y (l ++ x ∷ []) b e))
-  split_of (w ∷ l) x (z ∷ a) y b e = more w z l x a y b (heads w z (l ++ x ∷ []) (a ++ y ∷ b) e) (split_of l x a y b (tails w z (l ++ x ∷ []) (a ++ y ∷ b) e))
+  split_of (w ∷ l) x (z ∷ a) y b e =
+      more w z l x a y b (heads w z (l ++ x ∷ []) (a ++ y ∷ b) e) (split_of l x a y b (tails w z (l ++ x ∷ []) (a ++ y ∷ b) e))

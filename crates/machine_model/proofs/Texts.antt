@@ -9,13 +9,16 @@ use Rattle.machine_model.proofs.Runs.{trace_join}
 
 pub lines_join : (xs ys : List Item) → lines_of (xs ++ ys) ≡ lines_of xs ++ lines_of ys
 lines_join [] ys = refl
-lines_join (x ∷ xs) ys = ap (λ (l : List ℕ). item_line x ++ l) (lines_join xs ys) ∙ sym (append_assoc (item_line x) (lines_of xs) (lines_of ys))
+lines_join (x ∷ xs) ys =
+    ap (λ (l : List ℕ). item_line x ++ l) (lines_join xs ys) ∙ sym (append_assoc (item_line x) (lines_of xs) (lines_of ys))
 
 -- the lines of what two runs report
-pub reported : (reports later : List Report) → lines_of (trace_of (reports ++ later)) ≡ lines_of (trace_of reports) ++ lines_of (trace_of later)
+pub reported : (reports later : List Report) → lines_of (trace_of (reports ++ later)) ≡ lines_of (trace_of reports)
+    ++ lines_of (trace_of later)
 reported reports later = ap lines_of (trace_join reports later) ∙ lines_join (trace_of reports) (trace_of later)
 
-pub text_is : (reports : List Report) (count : ℕ) (end : End) → lines_of (trace_of reports) ++ end_line count end ≡ text_of (trace_of reports) count end
+pub text_is : (reports : List Report) (count : ℕ) (end : End) → lines_of (trace_of reports)
+    ++ end_line count end ≡ text_of (trace_of reports) count end
 unfolding text_of
 text_is reports count end = refl
 

@@ -114,14 +114,16 @@ list_follows (w ∷ ws) s h =
     follows_on s (saved s w.at w.size w.value) (stored_all (saved s w.at w.size w.value) ws) (one_follows s w.at w.size w.value h.0)
     (list_follows ws (saved s w.at w.size w.value) (noted_after s w.at w.size w.value ws h.1))
 
-one_more : (s : Space) (ws : List Store) (w : Store) → AreNoted s ws → AreAll (IsNoted s) w.at (sizes.width w.size / 8) → AreNoted s (ws ++ w ∷ [])
+one_more : (s : Space) (ws : List Store) (w : Store) → AreNoted s ws → AreAll (IsNoted s) w.at (sizes.width w.size / 8)
+    → AreNoted s (ws ++ w ∷ [])
 one_more s [] w h k = (k, tt)
 one_more s (x ∷ ws) w h k = (h.0, one_more s ws w h.1 k)
 
 longs_noted : (s : Space) (n at : ℕ) (vs : List ℕ) → AreAll (IsNoted s) at (4 * n) → AreNoted s (longs_to n at vs)
 longs_noted s zero at vs h = tt
 longs_noted s (suc n) at vs h =
-    one_more s (longs_to n at vs) (store (at + 4 * n) Long (slice_index vs n)) (longs_noted s n at vs (λ k lt. h k (omega (arith, lt)))) (λ k lt.
+    one_more s (longs_to n at vs) (store (at + 4 * n) Long (slice_index vs n))
+    (longs_noted s n at vs (λ k lt. h k (omega (arith, lt)))) (λ k lt.
     let e : at + (4 * n + k) ≡ at + 4 * n + k = omega arith in
     subst (IsNoted s) e (h (4 * n + k) (omega (arith, lt))))
 
@@ -143,7 +145,8 @@ range_tracks cpu write (Some r) = reaching_tracks denials r.at r.len _
 
 pub both_tracks : (cpu : Cpu) (ranges : Ranges) → Tracks (both_reached cpu ranges)
 unfolding both_reached
-both_tracks cpu ranges = then_tracks (unless_tracks (refusal.Raise 13 0) (not (is_refused cpu ranges))) (λ done. then_tracks (range_tracks cpu false ranges.read) (λ done. range_tracks cpu true ranges.write))
+both_tracks cpu ranges = then_tracks (unless_tracks (refusal.Raise 13 0) (not (is_refused cpu ranges)))
+    (λ done. then_tracks (range_tracks cpu false ranges.read) (λ done. range_tracks cpu true ranges.write))
 
 -- the write range is noted where it is ready
 abbrev LeavesNoted : Option Range → Space → Outcome Refusal (Unit {0}) → Type 0
@@ -163,24 +166,30 @@ write_leaves cpu (Some r) few s = opened r s (reached cpu true (Some r) s) ((rea
 
 -- ---- the instruction
 
-writes_leave : (insn : Insn) (len : ℕ) (cpu : Cpu) (before s : Space) (o : Outcome Refusal (Unit {0})) → LeavesNoted (ranges_of insn cpu.regs).write s o → Leaves s (after_writes insn len cpu before o)
+writes_leave : (insn : Insn) (len : ℕ) (cpu : Cpu) (before s : Space) (o : Outcome Refusal (Unit {0}))
+    → LeavesNoted (ranges_of insn cpu.regs).write s o → Leaves s (after_writes insn len cpu before o)
 writes_leave insn len cpu before s (Ok done) h =
     let bytes : ℕ → ℕ = byte_by (ranges_of insn cpu.regs).read before done.1 in
     leaves_on s done.1 (finished cpu done.1 (effect insn len cpu.regs bytes)) h.0
-    (finished_leaves cpu done.1 (effect insn len cpu.regs bytes) (within (IsNoted done.1) insn len cpu.regs bytes (effect insn len cpu.regs bytes) refl h.1))
+    (finished_leaves cpu done.1 (effect insn len cpu.regs bytes)
+    (within (IsNoted done.1) insn len cpu.regs bytes (effect insn len cpu.regs bytes) refl h.1))
 writes_leave insn len cpu before s (Err refused) h = h
 
-reads_leave : (insn : Insn) (len : ℕ) (cpu : Cpu) (s : Space) (o : Outcome Refusal (Unit {0})) → Leaves s o → Leaves s (after_reads insn len cpu o)
+reads_leave : (insn : Insn) (len : ℕ) (cpu : Cpu) (s : Space) (o : Outcome Refusal (Unit {0})) → Leaves s o
+    → Leaves s (after_reads insn len cpu o)
 reads_leave insn len cpu s (Ok done) h =
     leaves_on s done.1 (after_writes insn len cpu done.1 (reached cpu true (ranges_of insn cpu.regs).write done.1)) h
-    (writes_leave insn len cpu done.1 done.1 (reached cpu true (ranges_of insn cpu.regs).write done.1) (write_leaves cpu (ranges_of insn cpu.regs).write (few_write insn cpu.regs) done.1))
+    (writes_leave insn len cpu done.1 done.1 (reached cpu true (ranges_of insn cpu.regs).write done.1)
+    (write_leaves cpu (ranges_of insn cpu.regs).write (few_write insn cpu.regs) done.1))
 reads_leave insn len cpu s (Err refused) h = h
 
 translated_tracks : (insn : Insn) (len : ℕ) (cpu : Cpu) → Tracks (translated insn len cpu)
 translated_tracks insn len cpu = record {
-  each = λ s. reads_leave insn len cpu s (reached cpu false (ranges_of insn cpu.regs).read s) ((range_tracks cpu false (ranges_of insn cpu.regs).read).each s);
+  each = λ s. reads_leave insn len cpu s (reached cpu false (ranges_of insn cpu.regs).read s)
+      ((range_tracks cpu false (ranges_of insn cpu.regs).read).each s);
 }
 
 pub plain_tracks : (insn : Insn) (len : ℕ) (cpu : Cpu) → Tracks (executed insn len cpu)
 unfolding executed
-plain_tracks insn len cpu = then_tracks (unless_tracks (refusal.Raise 13 0) (not (is_refused cpu (ranges_of insn cpu.regs)))) (λ done. translated_tracks insn len cpu)
+plain_tracks insn len cpu = then_tracks (unless_tracks (refusal.Raise 13 0) (not (is_refused cpu (ranges_of insn cpu.regs))))
+    (λ done. translated_tracks insn len cpu)

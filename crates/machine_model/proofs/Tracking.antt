@@ -57,22 +57,28 @@ after s (Err e) f h k = h
 pub then_tracks : {E A B : Type 0} {m : Work E A} {f : A → Work E B} → Tracks m → ((x : A) → Tracks (f x)) → Tracks (m >>= f)
 then_tracks {m = m} {f = f} h k = record { each = λ s. after s (m s) f (h.each s) k }
 
-after_open : {E A B : Type 0} (at len : ℕ) (s : Space) (o : Outcome E A) (f : A → Work E B) → Leaves s o → ((x : A) → Opens at len (f x)) → LeavesOpen at len s (on_value o f)
+after_open : {E A B : Type 0} (at len : ℕ) (s : Space) (o : Outcome E A) (f : A → Work E B) → Leaves s o → ((x : A) → Opens at len (f x))
+    → LeavesOpen at len s (on_value o f)
 after_open at len s (Ok x) f h k = open_on at len s x.1 (f x.0 x.1) h ((k x.0).each x.1)
 after_open at len s (Err e) f h k = h
 
-pub then_opens : {E A B : Type 0} {m : Work E A} {f : A → Work E B} (at len : ℕ) → Tracks m → ((x : A) → Opens at len (f x)) → Opens at len (m >>= f)
+pub then_opens : {E A B : Type 0} {m : Work E A} {f : A → Work E B} (at len : ℕ) → Tracks m → ((x : A) → Opens at len (f x))
+    → Opens at len (m >>= f)
 then_opens {m = m} {f = f} at len h k = record { each = λ s. after_open at len s (m s) f (h.each s) k }
 
-after_opened : {E A B : Type 0} (at len : ℕ) (s : Space) (o : Outcome E A) (f : A → Work E B) → LeavesOpen at len s o → ((x : A) → Within at len (f x)) → LeavesOpen at len s (on_value o f)
+after_opened : {E A B : Type 0} (at len : ℕ) (s : Space) (o : Outcome E A) (f : A → Work E B) → LeavesOpen at len s o
+    → ((x : A) → Within at len (f x)) → LeavesOpen at len s (on_value o f)
 after_opened at len s (Ok x) f h k = open_on at len s x.1 (f x.0 x.1) h.0 ((k x.0).each x.1 h.1)
 after_opened at len s (Err e) f h k = h
 
 -- a range is opened, and then there is work within it
-pub opened_then : {E A B : Type 0} {m : Work E A} {f : A → Work E B} (at len : ℕ) → Opens at len m → ((x : A) → Within at len (f x)) → Tracks (m >>= f)
-opened_then {m = m} {f = f} at len h k = record { each = λ s. closed at len s (on_value (m s) f) (after_opened at len s (m s) f (h.each s) k) }
+pub opened_then : {E A B : Type 0} {m : Work E A} {f : A → Work E B} (at len : ℕ) → Opens at len m
+    → ((x : A) → Within at len (f x)) → Tracks (m >>= f)
+opened_then {m = m} {f = f} at len h k =
+    record { each = λ s. closed at len s (on_value (m s) f) (after_opened at len s (m s) f (h.each s) k) }
 
-pub then_within : {E A B : Type 0} {m : Work E A} {f : A → Work E B} {at len : ℕ} → Within at len m → ((x : A) → Within at len (f x)) → Within at len (m >>= f)
+pub then_within : {E A B : Type 0} {m : Work E A} {f : A → Work E B} {at len : ℕ} → Within at len m → ((x : A) → Within at len (f x))
+    → Within at len (m >>= f)
 then_within {m = m} {f = f} {at = at} {len = len} h k = record { each = λ s ready. after_opened at len s (m s) f (h.each s ready) k }
 
 -- ---- each access
@@ -104,10 +110,14 @@ pub reads_earlier_within : {E : Type 0} {at len : ℕ} (from : ℕ) (size : Size
 reads_earlier_within from size = record { each = λ s ready. (same_follows s, ready) }
 
 -- a write in a range that is open, which it stays
-pub writes_within : {E : Type 0} {start len : ℕ} (at : ℕ) (size : Size) (v : ℕ) → start ≤ at → at + size_in_bytes size ≤ start + len → Within start len (writes {E = E} at size v)
+pub writes_within : {E : Type 0} {start len : ℕ} (at : ℕ) (size : Size) (v : ℕ) → start ≤ at → at + size_in_bytes size ≤ start + len
+    → Within start len (writes {E = E} at size v)
 unfolding place
 writes_within {start = start} {len = len} at size v low high = record {
-  each = λ s ready. (saved_follows s at size v (λ k lt. ready.noted (at + k) (omega (arith, low)) (omega (arith, high, lt))), record { noted = λ byte above below. ready.noted byte above below });
+  each = λ s ready. (
+    saved_follows s at size v (λ k lt. ready.noted (at + k) (omega (arith, low)) (omega (arith, high, lt))),
+    record { noted = λ byte above below. ready.noted byte above below },
+  );
 }
 
 -- ---- a range that is made ready
@@ -122,17 +132,25 @@ met_leaves d s (touch.Stop stop) u h = h
 
 pub reaching_tracks : {E : Type 0} (d : Denials E) (at len : ℕ) (access : Access) → Tracks (reaching d at len access)
 unfolding reaching
-reaching_tracks d at len access = record { each = λ s. met_leaves d s (uses s at len access).0 (uses s at len access).1 (uses_follow s at len access) }
+reaching_tracks d at len access =
+    record { each = λ s. met_leaves d s (uses s at len access).0 (uses s at len access).1 (uses_follow s at len access) }
 
-met_opens : {E : Type 0} (d : Denials E) (at len : ℕ) (access : Access) → access.write ≡ true → len ≤ 4096 → (s : Space) (t : Touch) (u : Space) → uses s at len access ≡ (t, u) → Follows s u
+met_opens : {E : Type 0} (d : Denials E) (at len : ℕ) (access : Access) → access.write ≡ true → len ≤ 4096
+    → (s : Space) (t : Touch) (u : Space) → uses s at len access ≡ (t, u) → Follows s u
     → LeavesOpen at len s (answered d t u)
-met_opens d at len access write short s touch.Ready u is h = (h, record { noted = λ byte low high. writes_are_noted s u at len byte access write is low high short })
+met_opens d at len access write short s touch.Ready u is h =
+    (h, record { noted = λ byte low high. writes_are_noted s u at len byte access write is low high short })
 met_opens d at len access write short s (touch.Fault code cr2) u is h = h
 met_opens d at len access write short s (touch.Stop stop) u is h = h
 
-pub reaching_opens : {E : Type 0} (d : Denials E) (at len : ℕ) (access : Access) → access.write ≡ true → len ≤ 4096 → Opens at len (reaching d at len access)
+pub reaching_opens : {E : Type 0} (d : Denials E) (at len : ℕ) (access : Access) → access.write ≡ true → len ≤ 4096
+    → Opens at len (reaching d at len access)
 unfolding reaching
-reaching_opens d at len access write short = record { each = λ s. met_opens d at len access write short s (uses s at len access).0 (uses s at len access).1 refl (uses_follow s at len access) }
+reaching_opens d at len access write short =
+    record {
+      each = λ s. met_opens d at len access write short s (uses s at len access).0 (uses s at len access).1 refl
+          (uses_follow s at len access);
+    }
 
 -- how memory follows through a list of accesses
 pub ruleset tracks = (then_tracks, gives_tracks, unless_tracks, reads_tracks, reads_earlier_tracks, refuses_tracks, if_tracks)
@@ -145,7 +163,8 @@ pair_tracks d at = search (tracks, reaching_tracks) depth 12
 
 pub byte_tracks : {E : Type 0} (d : Denials E) (at v : ℕ) → Tracks (byte_set d at v)
 unfolding byte_set
-byte_tracks d at v = opened_then at 1 (reaching_opens d at 1 (by_processor true) refl (omega arith)) (λ done. writes_within at Byte v (omega arith) (omega arith))
+byte_tracks d at v = opened_then at 1 (reaching_opens d at 1 (by_processor true) refl (omega arith))
+    (λ done. writes_within at Byte v (omega arith) (omega arith))
 
 pub mark_tracks : {E : Type 0} (d : Denials E) (cpu : Cpu) (sel : ℕ) (m : Option ℕ) → Tracks (mark d cpu sel m)
 mark_tracks d cpu sel None = gives_tracks tt

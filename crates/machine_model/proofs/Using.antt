@@ -38,11 +38,14 @@ uses_on user s t u h k = record {
 }
 
 -- what isn't a translation changes none
-pub beside : (user : Bool) (s : Space) (ram : List ℕ) (tables wrote : List ℕ) (ready : Span) (earlier : Earlier) → Uses user s (record s { ram = ram; tables = tables; wrote = wrote; ready = ready; earlier = earlier })
-beside user s ram tables wrote ready earlier = record { rules = λ page frame. refl; visited = λ page c. c; others = λ page c. refl; lead = λ h. record { each = h.each } }
+pub beside : (user : Bool) (s : Space) (ram : List ℕ) (tables wrote : List ℕ) (ready : Span) (earlier : Earlier)
+    → Uses user s (record s { ram = ram; tables = tables; wrote = wrote; ready = ready; earlier = earlier })
+beside user s ram tables wrote ready earlier =
+    record { rules = λ page frame. refl; visited = λ page c. c; others = λ page c. refl; lead = λ h. record { each = h.each } }
 
 -- the instruction's own bytes are no rule of these
-pub owning : (user : Bool) (s : Space) (mode : Mode) → ((page frame : ℕ) → may_use mode user page frame ≡ may_use s.mode user page frame) → Uses user s (record s { mode = mode })
+pub owning : (user : Bool) (s : Space) (mode : Mode) → ((page frame : ℕ) → may_use mode user page frame ≡ may_use s.mode user page frame)
+    → Uses user s (record s { mode = mode })
 owning user s mode same = record {
   rules = same;
   visited = λ page c. c;
@@ -80,14 +83,18 @@ page_uses_on : (user : Bool) (s t : Space) (page : ℕ) → AfterPage user s t p
 page_uses_on user s t page h = record {
   rules = λ q frame. ap (λ (m : Mode). may_use m user q frame) h.mode;
   visited = λ q c. subst (λ (l : List ℕ). Contains l q) (sym h.visited) (Contains-append_left s.visited (page ∷ []) q c);
-  others = λ q c. h.others q (λ e. c (subst (λ (l : List ℕ). Contains l q) (sym h.visited) (subst (Contains (s.visited ++ page ∷ [])) (sym e) (page_is_one s.visited page))));
+  others =
+      λ q c. h.others q (λ e. c
+      (subst (λ (l : List ℕ). Contains l q) (sym h.visited)
+      (subst (Contains (s.visited ++ page ∷ [])) (sym e) (page_is_one s.visited page))));
   lead = λ l. record { each = λ q c. each l q (eqb_tells q page) (subst (λ (w : List ℕ). Contains w q) h.visited c) };
 }
   where
     at_mode : (q : ℕ) (o : Option Entry) → Fits s.mode user q o → Fits t.mode user q o
     at_mode q o k = subst (λ (m : Mode). Fits m user q o) (sym h.mode) k
 
-    each : LeadWell user s → (q : ℕ) → (((q == page) ≡ true) × (q ≡ page)) ⊎ (((q == page) ≡ false) × (q ≡ page → ⊥)) → Contains (s.visited ++ page ∷ []) q → Fits t.mode user q (get t.set q)
+    each : LeadWell user s → (q : ℕ) → (((q == page) ≡ true) × (q ≡ page)) ⊎ (((q == page) ≡ false) × (q ≡ page → ⊥))
+        → Contains (s.visited ++ page ∷ []) q → Fits t.mode user q (get t.set q)
     each l q (inl here) c = subst (λ (p : ℕ). Fits t.mode user p (get t.set p)) (sym here.1) (at_mode page (get t.set page) h.fits)
     each l q (inr other) c =
         elim (one_or s.visited page q c) [
@@ -127,7 +134,8 @@ word_of : (frames cr3 page dir word : ℕ) → IsOf page (by_word frames cr3 pag
 word_of frames cr3 page dir word = either_walk page (not (has word 1)) _ _ tt (either_walk page (nat_le frames (word / 4096)) _ _ tt refl)
 
 large_of : (frames cr3 page dir : ℕ) → IsOf page (by_large frames cr3 page dir)
-large_of frames cr3 page dir = either_walk page (has_reserved dir) _ _ tt (either_walk page (nat_le frames (large_frame dir page)) _ _ tt refl)
+large_of frames cr3 page dir =
+    either_walk page (has_reserved dir) _ _ tt (either_walk page (nat_le frames (large_frame dir page)) _ _ tt refl)
 
 table_of : (ram : List ℕ) (frames cr3 page dir : ℕ) → IsOf page (by_table ram frames cr3 page dir)
 table_of ram frames cr3 page dir = either_walk page (nat_le frames (dir / 4096)) _ _ tt (word_of frames cr3 page dir _)
@@ -140,7 +148,8 @@ fresh_of ram frames cr3 pse page =
     (either_walk page (not (has dir 1)) _ _ tt
     (either_walk page (is_large pse dir) _ _ (large_of frames cr3 page dir) (table_of ram frames cr3 page dir)))
 
-pub found_page : (ram : List ℕ) (frames cr3 : ℕ) (pse : Bool) (page : ℕ) (e : Entry) (d t : ℕ) → fresh ram frames cr3 pse page ≡ Found e d t → e.page ≡ page
+pub found_page : (ram : List ℕ) (frames cr3 : ℕ) (pse : Bool) (page : ℕ) (e : Entry) (d t : ℕ)
+    → fresh ram frames cr3 pse page ≡ Found e d t → e.page ≡ page
 found_page ram frames cr3 pse page e d t is = subst (IsOf page) is (fresh_of ram frames cr3 pse page)
 
 -- ---- what one page's use decides
@@ -149,16 +158,19 @@ found_page ram frames cr3 pse page e d t is = subst (IsOf page) is (fresh_of ram
 abbrev Lets : Mode → Bool → (fetch : Bool) → Access → ℕ → Type 0
 Lets mode user fetch access page = (frame : ℕ) → is_barred mode fetch access.user page frame ≡ false → may_use mode user page frame ≡ true
 
-either_fits : (mode : Mode) (user : Bool) (page : ℕ) (test : Bool) (a b : Decision) → (test ≡ true → Fits mode user page a.entry) → (test ≡ false → Fits mode user page b.entry) → Fits mode user page (cond test a b).entry
+either_fits : (mode : Mode) (user : Bool) (page : ℕ) (test : Bool) (a b : Decision) → (test ≡ true → Fits mode user page a.entry)
+    → (test ≡ false → Fits mode user page b.entry) → Fits mode user page (cond test a b).entry
 either_fits mode user page true a b h k = h refl
 either_fits mode user page false a b h k = k refl
 
-dirtied_fits : (mode : Mode) (user : Bool) (page : ℕ) (entry : Entry) (write : Bool) → may_use mode user page entry.frame ≡ true → Fits mode user page (Some (dirtied entry write))
+dirtied_fits : (mode : Mode) (user : Bool) (page : ℕ) (entry : Entry) (write : Bool) → may_use mode user page entry.frame ≡ true
+    → Fits mode user page (Some (dirtied entry write))
 dirtied_fits mode user page entry write h e is =
     let g : dirtied entry write ≡ e = cc in
     subst (λ (x : Entry). may_use mode user page x.frame ≡ true) g h
 
-walk_fits : (s : Tables) (user : Bool) (fetch : Bool) (page at : ℕ) (access : Access) (w : Walk) → Lets s.mode user fetch access page → IsOf page w → Fits s.mode user page (by_walk s fetch at access w).entry
+walk_fits : (s : Tables) (user : Bool) (fetch : Bool) (page at : ℕ) (access : Access) (w : Walk) → Lets s.mode user fetch access page
+    → IsOf page w → Fits s.mode user page (by_walk s fetch at access w).entry
 walk_fits s user fetch page at access Absent lets of = absent_fits s.mode user page
 walk_fits s user fetch page at access Beyond lets of = absent_fits s.mode user page
 walk_fits s user fetch page at access Reserved lets of = absent_fits s.mode user page
@@ -167,9 +179,11 @@ walk_fits s user fetch page at access (Found entry d t) lets of =
     either_fits s.mode user page (not (grants entry access s.wp)) _ _ (λ e. none)
     (λ e. either_fits s.mode user page (is_barred s.mode fetch access.user entry.page entry.frame) _ _ (λ f. none)
     (λ f. either_fits s.mode user page (marks_own s d t access.write) _ _ (λ g. none)
-    (λ g. dirtied_fits s.mode user page entry access.write (lets entry.frame (subst (λ (p : ℕ). is_barred s.mode fetch access.user p entry.frame ≡ false) of f)))))
+    (λ g. dirtied_fits s.mode user page entry access.write
+    (lets entry.frame (subst (λ (p : ℕ). is_barred s.mode fetch access.user p entry.frame ≡ false) of f)))))
 
-decided_fits : (s : Tables) (user : Bool) (fetch : Bool) (page at : ℕ) (access : Access) → Lets s.mode user fetch access page → Fits s.mode user page (decided s fetch page at access).entry
+decided_fits : (s : Tables) (user : Bool) (fetch : Bool) (page at : ℕ) (access : Access) → Lets s.mode user fetch access page
+    → Fits s.mode user page (decided s fetch page at access).entry
 unfolding decided
 decided_fits s user fetch page at access lets =
     either_fits s.mode user page (walks_text s page) _ _ (λ e. absent_fits s.mode user page)
@@ -198,19 +212,23 @@ settled_after user s page d h = record {
 }
 
 -- the entry that was found is used
-found_after : (user : Bool) (s : Space) (page : ℕ) (entry : Entry) → get s.set page ≡ Some entry → may_use s.mode user page entry.frame ≡ true
+found_after : (user : Bool) (s : Space) (page : ℕ) (entry : Entry) → get s.set page ≡ Some entry
+    → may_use s.mode user page entry.frame ≡ true
     → AfterPage user s (record s { pages = s.pages + 1; visited = s.visited ++ page ∷ [] }) page
 found_after user s page entry is may = record {
   mode = refl;
   visited = refl;
   others = λ q ne. refl;
-  fits = λ e there. let g : entry ≡ e = same entry e (sym is ∙ there) in subst (λ (x : Entry). may_use s.mode user page x.frame ≡ true) g may;
+  fits = λ e there. let g : entry ≡ e =
+      same entry e (sym is ∙ there) in subst (λ (x : Entry). may_use s.mode user page x.frame ≡ true) g may;
 }
   where
     same : (a b : Entry) → Some a ≡ Some b → a ≡ b
     same a b e = cc
 
-by_test : (user : Bool) (s t : Space) (test : Bool) → (test ≡ false → Uses user s t) → Met user s (cond {A = Touch × Space} test (Stop stops.TextMapped, t) (Ready, t)).0 (cond {A = Touch × Space} test (Stop stops.TextMapped, t) (Ready, t)).1
+by_test : (user : Bool) (s t : Space) (test : Bool) → (test ≡ false → Uses user s t)
+    → Met user s (cond {A = Touch × Space} test (Stop stops.TextMapped, t) (Ready, t)).0
+    (cond {A = Touch × Space} test (Stop stops.TextMapped, t) (Ready, t)).1
 by_test user s t true h = tt
 by_test user s t false h = h refl
 
@@ -223,17 +241,21 @@ usable_is (Some e) access wp entry is = by (allows e access wp) is
     by true h = h
     by false h = absurd (let f : ◌≡◌ {A = Option Entry} None (Some entry) = h in cc)
 
-entry_met : (user : Bool) (s : Space) (fetch : Bool) (page at : ℕ) (access : Access) (o : Option Entry) → Lets s.mode user fetch access page → usable (get s.set page) access s.wp ≡ o
-    → Met user s (by_entry (record s { pages = s.pages + 1; visited = s.visited ++ page ∷ [] }) fetch page at access o).0 (by_entry (record s { pages = s.pages + 1; visited = s.visited ++ page ∷ [] }) fetch page at access o).1
+entry_met : (user : Bool) (s : Space) (fetch : Bool) (page at : ℕ) (access : Access) (o : Option Entry) → Lets s.mode user fetch access page
+    → usable (get s.set page) access s.wp ≡ o
+    → Met user s (by_entry (record s { pages = s.pages + 1; visited = s.visited ++ page ∷ [] }) fetch page at access o).0
+    (by_entry (record s { pages = s.pages + 1; visited = s.visited ++ page ∷ [] }) fetch page at access o).1
 entry_met user s fetch page at access None lets is =
     let seen : Space = record s { pages = s.pages + 1; visited = s.visited ++ page ∷ [] } in
     let d : Decision = decided (tables_of seen) fetch page at access in
     any_met user s (settled seen page d).1 d.met
-    (page_uses_on user s (settled seen page d).1 page (settled_after user s page d (decided_fits (tables_of seen) user fetch page at access lets)))
+    (page_uses_on user s (settled seen page d).1 page
+    (settled_after user s page d (decided_fits (tables_of seen) user fetch page at access lets)))
 entry_met user s fetch page at access (Some entry) lets is =
     let seen : Space = record s { pages = s.pages + 1; visited = s.visited ++ page ∷ [] } in
     by_test user s seen (is_barred s.mode fetch access.user page entry.frame)
-    (λ free. page_uses_on user s seen page (found_after user s page entry (usable_is (get s.set page) access s.wp entry is) (lets entry.frame free)))
+    (λ free. page_uses_on user s seen page
+    (found_after user s page entry (usable_is (get s.set page) access s.wp entry is) (lets entry.frame free)))
 
 page_met : (user : Bool) (s : Space) (fetch : Bool) (page at : ℕ) (access : Access) → Lets s.mode user fetch access page
     → Met user s (page_uses s fetch page at access).0 (page_uses s fetch page at access).1
@@ -261,7 +283,8 @@ both_true false true false e f = refl
 both_true false true true e f = absurd (let g : true ≡ false = f in cc)
 both_true false false c e f = absurd (let g : false ≡ true = e in cc)
 
-data_lets : (mode : Mode) (user : Bool) (access : Access) (page : ℕ) → (user ≡ false → IsBehind mode page) → Lets mode user false access page
+data_lets : (mode : Mode) (user : Bool) (access : Access) (page : ℕ) → (user ≡ false → IsBehind mode page)
+    → Lets mode user false access page
 data_lets mode true access page behind frame e = ap not e
 data_lets Bare false access page behind frame e = refl
 data_lets (Wedge text count own) false access page behind frame e =
@@ -269,7 +292,8 @@ data_lets (Wedge text count own) false access page behind frame e =
 
 -- ---- one range
 
-going : (user : Bool) (s : Space) (met : Touch) (t : Space) (f : Space → Touch × Space) → Met user s met t → (Uses user s t → Met user t (f t).0 (f t).1) → Met user s (go_on met t f).0 (go_on met t f).1
+going : (user : Bool) (s : Space) (met : Touch) (t : Space) (f : Space → Touch × Space) → Met user s met t
+    → (Uses user s t → Met user t (f t).0 (f t).1) → Met user s (go_on met t f).0 (go_on met t f).1
 going user s Ready t f h k = on user s t (f t).0 (f t).1 h (k h)
   where
     on : (user : Bool) (s t : Space) (met : Touch) (u : Space) → Uses user s t → Met user t met u → Met user s met u
@@ -288,9 +312,11 @@ ready_met : (user : Bool) (at len : ℕ) (write : Bool) (s : Space) → Uses use
 ready_met user at len write s = beside user s s.ram s.tables _ (record { start = at; len = len; write = write }) s.earlier
 
 unready_uses : (user : Bool) (s : Space) → Uses user s (unready s)
-unready_uses user s = beside user s s.ram s.tables s.wrote (record { start = 0; len = 0; write = false }) (record { start = s.ready.start; len = s.ready.len; set = s.set })
+unready_uses user s = beside user s s.ram s.tables s.wrote (record { start = 0; len = 0; write = false })
+    (record { start = s.ready.start; len = s.ready.len; set = s.set })
 
-choice : (user : Bool) (s : Space) (test : Bool) (a b : Touch × Space) → Met user s a.0 a.1 → Met user s b.0 b.1 → Met user s (cond test a b).0 (cond test a b).1
+choice : (user : Bool) (s : Space) (test : Bool) (a b : Touch × Space) → Met user s a.0 a.1 → Met user s b.0 b.1
+    → Met user s (cond test a b).0 (cond test a b).1
 choice user s true a b h k = h
 choice user s false a b h k = k
 
@@ -306,20 +332,26 @@ page_mode : (s : Space) (fetch : Bool) (page at : ℕ) (access : Access) → (pa
 unfolding page_uses
 page_mode s fetch page at access = by (usable (get s.set page) access s.wp)
   where
-    by : (o : Option Entry) → (by_entry (record s { pages = s.pages + 1; visited = s.visited ++ page ∷ [] }) fetch page at access o).1.mode ≡ s.mode
+    by : (o : Option Entry)
+        → (by_entry (record s { pages = s.pages + 1; visited = s.visited ++ page ∷ [] }) fetch page at access o).1.mode ≡ s.mode
     by None = refl
     by (Some entry) = at_test (is_barred s.mode fetch access.user page entry.frame)
       where
-        at_test : (t : Bool) → (cond {A = Touch × Space} t (Stop stops.TextMapped, record s { pages = s.pages + 1; visited = s.visited ++ page ∷ [] }) (Ready, record s { pages = s.pages + 1; visited = s.visited ++ page ∷ [] })).1.mode ≡ s.mode
+        at_test : (t : Bool) → (cond {A = Touch × Space} t
+            (Stop stops.TextMapped, record s { pages = s.pages + 1; visited = s.visited ++ page ∷ [] })
+            (Ready, record s { pages = s.pages + 1; visited = s.visited ++ page ∷ [] })).1.mode ≡ s.mode
         at_test true = refl
         at_test false = refl
 
-second_met : (user : Bool) (at len : ℕ) (access : Access) (s : Space) → 1 ≤ len → AreBehind user at len s → Met user s (second_page at len access s).0 (second_page at len access s).1
+second_met : (user : Bool) (at len : ℕ) (access : Access) (s : Space) → 1 ≤ len → AreBehind user at len s
+    → Met user s (second_page at len access s).0 (second_page at len access s).1
 second_met user at len access s some behind =
     choice user s ((at + len - 1) / 4096 == at / 4096) (Ready, s) _ (same_uses user s)
-    (page_met user s false ((at + len - 1) / 4096) ((at + len - 1) / 4096 * 4096) access (data_lets s.mode user access ((at + len - 1) / 4096) (λ low. behind low ((at + len - 1) / 4096) (omega (arith, some)))))
+    (page_met user s false ((at + len - 1) / 4096) ((at + len - 1) / 4096 * 4096) access
+    (data_lets s.mode user access ((at + len - 1) / 4096) (λ low. behind low ((at + len - 1) / 4096) (omega (arith, some)))))
 
-pages_met : (user : Bool) (at len : ℕ) (access : Access) (s : Space) → 1 ≤ len → AreBehind user at len s → Met user s (by_pages at len access s).0 (by_pages at len access s).1
+pages_met : (user : Bool) (at len : ℕ) (access : Access) (s : Space) → 1 ≤ len → AreBehind user at len s
+    → Met user s (by_pages at len access s).0 (by_pages at len access s).1
 pages_met user at len access s some behind =
     let first : Touch × Space = page_uses s false (at / 4096) at access in
     let same = page_mode s false (at / 4096) at access in
@@ -333,11 +365,13 @@ page_far : (at page : ℕ) → nat_le 285212672 at ≡ true → at / 4096 ≤ pa
 page_far at page g above = grind (arith, nat_tests)
 
 -- the windows keep data at level 0 past the text
-behind_window : (mode : Mode) (access : Access) (at : ℕ) → window_stop mode access at ≡ None → access.user ≡ false → (page : ℕ) → at / 4096 ≤ page → IsBehind mode page
+behind_window : (mode : Mode) (access : Access) (at : ℕ) → window_stop mode access at ≡ None → access.user ≡ false → (page : ℕ)
+    → at / 4096 ≤ page → IsBehind mode page
 behind_window Bare access at none low page above = tt
 behind_window (Wedge text count own) access at none low page above = far (nat_le 285212672 at) refl
   where
-    barred : (t : Bool) (a b c : reason.Stop) (u v : Bool) → cond (access.user || t) None (cond u (Some a) (cond v (Some b) (Some c))) ≡ None → t ≡ true
+    barred : (t : Bool) (a b c : reason.Stop) (u v : Bool)
+        → cond (access.user || t) None (cond u (Some a) (cond v (Some b) (Some c))) ≡ None → t ≡ true
     barred true a b c u v e = refl
     barred false a b c u v e = absurd (by access.user low u v e)
       where
@@ -349,19 +383,24 @@ behind_window (Wedge text count own) access at none low page above = far (nat_le
 
     far : (t : Bool) → nat_le 285212672 at ≡ t → nat_le 0x11000 page ≡ true
     far t is =
-        let g : nat_le 285212672 at ≡ true = barred (nat_le 285212672 at) stops.TextTouched stops.WedgeTouched stops.LowTouched (nat_le 268435456 at) (nat_le 67108864 at && nat_lt at 100663296) none in
+        let g : nat_le 285212672 at ≡ true = barred (nat_le 285212672 at) stops.TextTouched stops.WedgeTouched stops.LowTouched
+        (nat_le 268435456 at) (nat_le 67108864 at && nat_lt at 100663296) none in
         page_far at page g above
 
-window_met : (user : Bool) (w : Option reason.Stop) (at len : ℕ) (access : Access) (s : Space) → window_stop s.mode access at ≡ w → (user ≡ false → access.user ≡ false) → 1 ≤ len
+window_met : (user : Bool) (w : Option reason.Stop) (at len : ℕ) (access : Access) (s : Space) → window_stop s.mode access at ≡ w
+    → (user ≡ false → access.user ≡ false) → 1 ≤ len
     → Met user s (by_window w at len access s).0 (by_window w at len access s).1
-window_met user None at len access s is level some = pages_met user at len access s some (λ low page above. behind_window s.mode access at is (level low) page above)
+window_met user None at len access s is level some =
+    pages_met user at len access s some (λ low page above. behind_window s.mode access at is (level low) page above)
 window_met user (Some stop) at len access s is level some = tt
 
-pub uses_met : (user : Bool) (s : Space) (at len : ℕ) (access : Access) → (user ≡ false → access.user ≡ false) → 1 ≤ len → Met user s (uses s at len access).0 (uses s at len access).1
+pub uses_met : (user : Bool) (s : Space) (at len : ℕ) (access : Access) → (user ≡ false → access.user ≡ false) → 1 ≤ len
+    → Met user s (uses s at len access).0 (uses s at len access).1
 unfolding uses
 uses_met user s at len access level some =
     choice user s (nat_lt (2 ^ 32) (at + len)) (Stop stops.WrapAccess, unready s) _ tt
-    (met_on user s (unready s) _ _ (unready_uses user s) (window_met user (window_stop s.mode access at) at len access (unready s) refl level some))
+    (met_on user s (unready s) _ _ (unready_uses user s)
+    (window_met user (window_stop s.mode access at) at len access (unready s) refl level some))
 
 pub fetches_met : (user : Bool) (s : Space) (at len : ℕ) → Met user s (fetches s at len user).0 (fetches s at len user).1
 unfolding fetches
@@ -369,5 +408,6 @@ fetches_met user s at len =
     let access : Access = record { write = false; user = user } in
     let first : Touch × Space = page_uses (unready s) true (at / 4096) at access in
     going user s first.0 first.1 (made_ready at len false)
-    (met_on user s (unready s) first.0 first.1 (unready_uses user s) (page_met user (unready s) true (at / 4096) at access (fetch_lets s.mode user (at / 4096))))
+    (met_on user s (unready s) first.0 first.1 (unready_uses user s)
+    (page_met user (unready s) true (at / 4096) at access (fetch_lets s.mode user (at / 4096))))
     (λ h. ready_met user at len false first.1)

@@ -118,7 +118,8 @@ have i r = row_has i.op i r
 
 range_keeps : (cpu : Cpu) (write : Bool) (range : Option Range) → HasBytes range → Keeps is_stop (cpu.cpl == 3) (reached cpu write range)
 range_keeps cpu write None some = gives_keeps is_stop (cpu.cpl == 3) tt
-range_keeps cpu write (Some r) some = reaching_keeps is_stop denials (cpu.cpl == 3) r.at r.len (record { write = write; user = cpu.cpl == 3 }) (λ stop. refl) (λ low. low) some
+range_keeps cpu write (Some r) some = reaching_keeps is_stop denials (cpu.cpl == 3) r.at r.len
+    (record { write = write; user = cpu.cpl == 3 }) (λ stop. refl) (λ low. low) some
 
 pub both_keep : (cpu : Cpu) (insn : Insn) → Keeps is_stop (cpu.cpl == 3) (both_reached cpu (ranges_of insn cpu.regs))
 unfolding both_reached
@@ -133,32 +134,40 @@ both_keep cpu insn =
 stored_uses : (user : Bool) (ws : List Store) (s : Space) → Uses user s (stored_all s ws)
 stored_uses user [] s = same_uses user s
 stored_uses user (w ∷ ws) s =
-    uses_on user s (saved s w.at w.size w.value) (stored_all (saved s w.at w.size w.value) ws) (saved_uses user s w.at w.size w.value) (stored_uses user ws (saved s w.at w.size w.value))
+    uses_on user s (saved s w.at w.size w.value) (stored_all (saved s w.at w.size w.value) ws) (saved_uses user s w.at w.size w.value)
+    (stored_uses user ws (saved s w.at w.size w.value))
 
 finished_leaves : (user : Bool) (cpu : Cpu) (s : Space) (o : exec.Outcome) → LeavesUses is_stop user s (finished cpu s o)
 finished_leaves user cpu s (outcomes.Done regs stores) = stored_uses user (list_of stores) s
 finished_leaves user cpu s (outcomes.Raise vector code) = λ goes. same_uses user s
 finished_leaves user cpu s (outcomes.Stop stop) = λ goes. same_uses user s
 
-writes_leave : (insn : Insn) (len : ℕ) (cpu : Cpu) (user : Bool) (before s : Space) (o : Outcome Refusal (Unit {0})) → LeavesUses is_stop user s o → LeavesUses is_stop user s (after_writes insn len cpu before o)
+writes_leave : (insn : Insn) (len : ℕ) (cpu : Cpu) (user : Bool) (before s : Space) (o : Outcome Refusal (Unit {0}))
+    → LeavesUses is_stop user s o → LeavesUses is_stop user s (after_writes insn len cpu before o)
 writes_leave insn len cpu user before s (Ok done) h =
     let outcome : exec.Outcome = effect insn len cpu.regs (byte_by (ranges_of insn cpu.regs).read before done.1) in
     leaves_on is_stop user s done.1 (finished cpu done.1 outcome) h (finished_leaves user cpu done.1 outcome)
 writes_leave insn len cpu user before s (Err refused) h = h
 
-reads_leave : (insn : Insn) (len : ℕ) (cpu : Cpu) (s : Space) (o : Outcome Refusal (Unit {0})) → LeavesUses is_stop (cpu.cpl == 3) s o → LeavesUses is_stop (cpu.cpl == 3) s (after_reads insn len cpu o)
+reads_leave : (insn : Insn) (len : ℕ) (cpu : Cpu) (s : Space) (o : Outcome Refusal (Unit {0})) → LeavesUses is_stop (cpu.cpl == 3) s o
+    → LeavesUses is_stop (cpu.cpl == 3) s (after_reads insn len cpu o)
 reads_leave insn len cpu s (Ok done) h =
     let range : Option Range = (ranges_of insn cpu.regs).write in
     leaves_on is_stop (cpu.cpl == 3) s done.1 (after_writes insn len cpu done.1 (reached cpu true range done.1)) h
-    (writes_leave insn len cpu (cpu.cpl == 3) done.1 done.1 (reached cpu true range done.1) ((range_keeps cpu true range (have insn cpu.regs).1).each done.1))
+    (writes_leave insn len cpu (cpu.cpl == 3) done.1 done.1 (reached cpu true range done.1)
+    ((range_keeps cpu true range (have insn cpu.regs).1).each done.1))
 reads_leave insn len cpu s (Err refused) h = h
 
 translated_keeps : (insn : Insn) (len : ℕ) (cpu : Cpu) → Keeps is_stop (cpu.cpl == 3) (translated insn len cpu)
 translated_keeps insn len cpu =
     let range : Option Range = (ranges_of insn cpu.regs).read in
-    record { each = λ s. reads_leave insn len cpu s (reached cpu false range s) ((range_keeps cpu false range (have insn cpu.regs).0).each s) }
+    record {
+      each = λ s. reads_leave insn len cpu s (reached cpu false range s)
+          ((range_keeps cpu false range (have insn cpu.regs).0).each s);
+    }
 
 pub plain_keeps : (insn : Insn) (len : ℕ) (cpu : Cpu) → Keeps is_stop (cpu.cpl == 3) (executed insn len cpu)
 unfolding executed
 plain_keeps insn len cpu =
-    then_keeps (unless_keeps is_stop (cpu.cpl == 3) (refusal.Raise 13 0) (not (is_refused cpu (ranges_of insn cpu.regs)))) (λ done. translated_keeps insn len cpu)
+    then_keeps (unless_keeps is_stop (cpu.cpl == 3) (refusal.Raise 13 0) (not (is_refused cpu (ranges_of insn cpu.regs))))
+    (λ done. translated_keeps insn len cpu)

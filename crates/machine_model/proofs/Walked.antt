@@ -70,34 +70,54 @@ unfolding fresh
 either ram frames cr3 pse page dir_at word_at h =
     let dir = word32 ram (dir_place cr3 page) in
     let one = else_finds (nat_le frames (cr3 / 4096)) Beyond (by_dir ram frames cr3 pse page dir) dir_at word_at refl h in
-    let two = else_finds (not (has dir 1)) Absent (cond (is_large pse dir) (by_large frames cr3 page dir) (by_table ram frames cr3 page dir)) dir_at word_at refl one.1 in
+    let two = else_finds (not (has dir 1)) Absent
+    (cond (is_large pse dir) (by_large frames cr3 page dir) (by_table ram frames cr3 page dir)) dir_at word_at refl one.1 in
     by_size one.0 (not-false (has dir 1) two.0) (is_large pse dir) refl two.1
   where
-    of_table : nat_le frames (cr3 / 4096) ≡ false → has (word32 ram (dir_place cr3 page)) 1 ≡ true → is_large pse (word32 ram (dir_place cr3 page)) ≡ false
-        → Finds (by_table ram frames cr3 page (word32 ram (dir_place cr3 page))) dir_at word_at → Both ram frames cr3 pse page dir_at word_at
+    of_table : nat_le frames (cr3 / 4096) ≡ false → has (word32 ram (dir_place cr3 page)) 1 ≡ true
+        → is_large pse (word32 ram (dir_place cr3 page)) ≡ false
+        → Finds (by_table ram frames cr3 page (word32 ram (dir_place cr3 page))) dir_at word_at
+        → Both ram frames cr3 pse page dir_at word_at
     of_table near present small found =
         let dir = word32 ram (dir_place cr3 page) in
         let word = word32 ram (word_place dir page) in
         let three = else_finds (nat_le frames (dir / 4096)) Beyond (by_word frames cr3 page dir word) dir_at word_at refl found in
-        let four = else_finds (not (has word 1)) Absent (cond (nat_le frames (word / 4096)) Beyond (Found (entry_of page dir word) (dir_place cr3 page) (word_place dir page))) dir_at word_at refl three.1 in
-        let five = else_finds (nat_le frames (word / 4096)) Beyond (Found (entry_of page dir word) (dir_place cr3 page) (word_place dir page)) dir_at word_at refl four.1 in
-        record { near = near; present = present; small = small; inside = within frames (dir / 4096) three.0; dir_is = five.1.dir_is; word_is = five.1.word_is }
+        let four = else_finds (not (has word 1)) Absent
+        (cond (nat_le frames (word / 4096)) Beyond (Found (entry_of page dir word) (dir_place cr3 page) (word_place dir page))) dir_at
+        word_at refl three.1 in
+        let five = else_finds (nat_le frames (word / 4096)) Beyond
+        (Found (entry_of page dir word) (dir_place cr3 page) (word_place dir page)) dir_at word_at refl four.1 in
+        record {
+          near = near;
+          present = present;
+          small = small;
+          inside = within frames (dir / 4096) three.0;
+          dir_is = five.1.dir_is;
+          word_is = five.1.word_is;
+        }
 
-    of_large : nat_le frames (cr3 / 4096) ≡ false → has (word32 ram (dir_place cr3 page)) 1 ≡ true → is_large pse (word32 ram (dir_place cr3 page)) ≡ true
+    of_large : nat_le frames (cr3 / 4096) ≡ false → has (word32 ram (dir_place cr3 page)) 1 ≡ true
+        → is_large pse (word32 ram (dir_place cr3 page)) ≡ true
         → Finds (by_large frames cr3 page (word32 ram (dir_place cr3 page))) dir_at word_at → One ram frames cr3 pse page dir_at word_at
     of_large near present large found =
         let dir = word32 ram (dir_place cr3 page) in
-        let three = else_finds (has_reserved dir) Reserved (cond (nat_le frames (large_frame dir page)) Beyond (Found (large_entry page dir) (dir_place cr3 page) (dir_place cr3 page))) dir_at word_at refl found in
-        let four = else_finds (nat_le frames (large_frame dir page)) Beyond (Found (large_entry page dir) (dir_place cr3 page) (dir_place cr3 page)) dir_at word_at refl three.1 in
+        let three = else_finds (has_reserved dir) Reserved
+        (cond (nat_le frames (large_frame dir page)) Beyond (Found (large_entry page dir) (dir_place cr3 page) (dir_place cr3 page))) dir_at
+        word_at refl found in
+        let four = else_finds (nat_le frames (large_frame dir page)) Beyond
+        (Found (large_entry page dir) (dir_place cr3 page) (dir_place cr3 page)) dir_at word_at refl three.1 in
         record { near = near; present = present; large = large; dir_is = four.1.dir_is; word_is = four.1.word_is }
 
-    by_size : nat_le frames (cr3 / 4096) ≡ false → has (word32 ram (dir_place cr3 page)) 1 ≡ true → (large : Bool) → is_large pse (word32 ram (dir_place cr3 page)) ≡ large
-        → Finds (cond large (by_large frames cr3 page (word32 ram (dir_place cr3 page))) (by_table ram frames cr3 page (word32 ram (dir_place cr3 page)))) dir_at word_at
+    by_size : nat_le frames (cr3 / 4096) ≡ false → has (word32 ram (dir_place cr3 page)) 1 ≡ true → (large : Bool)
+        → is_large pse (word32 ram (dir_place cr3 page)) ≡ large
+        → Finds (cond large (by_large frames cr3 page (word32 ram (dir_place cr3 page)))
+        (by_table ram frames cr3 page (word32 ram (dir_place cr3 page)))) dir_at word_at
         → Both ram frames cr3 pse page dir_at word_at ⊎ One ram frames cr3 pse page dir_at word_at
     by_size near present true is found = inr (of_large near present is found)
     by_size near present false is found = inl (of_table near present is found)
 
-both_noted : (ram : List ℕ) (frames cr3 : ℕ) (pse : Bool) (page dir_at word_at : ℕ) → page < 2 ^ 20 → Both ram frames cr3 pse page dir_at word_at
+both_noted : (ram : List ℕ) (frames cr3 : ℕ) (pse : Bool) (page dir_at word_at : ℕ) → page < 2 ^ 20
+    → Both ram frames cr3 pse page dir_at word_at
     → tables_read ram frames cr3 pse page ≡ dir_at / 4096 ∷ word_at / 4096 ∷ []
 unfolding tables_read
 both_noted ram frames cr3 pse page dir_at word_at small b =
@@ -106,7 +126,8 @@ both_noted ram frames cr3 pse page dir_at word_at small b =
     let second : dir / 4096 ≡ word_at / 4096 = sym (word_frame dir page) ∙ ap (λ (n : ℕ). n / 4096) b.word_is in
     rw (b.near, b.present, b.small, b.inside) (ap (λ (n : ℕ). n ∷ dir / 4096 ∷ []) first ∙ ap (λ (n : ℕ). dir_at / 4096 ∷ n ∷ []) second)
 
-one_noted : (ram : List ℕ) (frames cr3 : ℕ) (pse : Bool) (page dir_at word_at : ℕ) → page < 2 ^ 20 → One ram frames cr3 pse page dir_at word_at
+one_noted : (ram : List ℕ) (frames cr3 : ℕ) (pse : Bool) (page dir_at word_at : ℕ) → page < 2 ^ 20
+    → One ram frames cr3 pse page dir_at word_at
     → tables_read ram frames cr3 pse page ≡ dir_at / 4096 ∷ []
 unfolding tables_read
 one_noted ram frames cr3 pse page dir_at word_at small b =
@@ -115,7 +136,8 @@ one_noted ram frames cr3 pse page dir_at word_at small b =
 
 pub walks_are_noted : WalksAreNoted
 walks_are_noted ram frames cr3 pse page dir_at word_at entry small is =
-    elim (either ram frames cr3 pse page dir_at word_at (record { found = ap is_found is; dir_is = ap dir_of is; word_is = ap word_of is })) [
+    elim (either ram frames cr3 pse page dir_at word_at
+    (record { found = ap is_found is; dir_is = ap dir_of is; word_is = ap word_of is })) [
       | inl b ↦ inl (both_noted ram frames cr3 pse page dir_at word_at small b)
       | inr b ↦ inr (sym b.word_is ∙ b.dir_is, one_noted ram frames cr3 pse page dir_at word_at small b)
     ]

@@ -17,7 +17,8 @@ is_found Beyond = false
 is_found Reserved = false
 
 -- a test that ends the walk was not met
-second_found : (test : Bool) (a b : Walk) (e : Entry) (d t : ℕ) → is_found a ≡ false → cond test a b ≡ Found e d t → (test ≡ false) × (b ≡ Found e d t)
+second_found : (test : Bool) (a b : Walk) (e : Entry) (d t : ℕ) → is_found a ≡ false → cond test a b ≡ Found e d t
+    → (test ≡ false) × (b ≡ Found e d t)
 unfolding is_found
 second_found true a b e d t n h = absurd (let g : true ≡ false = sym (ap is_found h) ∙ n in cc)
 second_found false a b e d t n h = (refl, h)
@@ -58,21 +59,27 @@ pub data IsWalk (ram : List ℕ) (frames cr3 : ℕ) (pse : Bool) (page : ℕ) (e
   ByTable : IsByTable ram frames cr3 pse page e d t → IsWalk ram frames cr3 pse page e d t
   Large : IsLarge ram frames cr3 pse page e d t → IsWalk ram frames cr3 pse page e d t
 
-pub walk_parts : (ram : List ℕ) (frames cr3 : ℕ) (pse : Bool) (page : ℕ) (e : Entry) (d t : ℕ) → fresh ram frames cr3 pse page ≡ Found e d t → IsWalk ram frames cr3 pse page e d t
+pub walk_parts : (ram : List ℕ) (frames cr3 : ℕ) (pse : Bool) (page : ℕ) (e : Entry) (d t : ℕ) → fresh ram frames cr3 pse page ≡ Found e d t
+    → IsWalk ram frames cr3 pse page e d t
 unfolding fresh is_found
 walk_parts ram frames cr3 pse page e d t h =
     let dir = dir_word ram cr3 page in
     let one = second_found (nat_le frames (cr3 / 4096)) Beyond (by_dir ram frames cr3 pse page dir) e d t refl h in
-    let two = second_found (not (has dir 1)) Absent (cond (is_large pse dir) (by_large frames cr3 page dir) (by_table ram frames cr3 page dir)) e d t refl one.1 in
+    let two = second_found (not (has dir 1)) Absent
+    (cond (is_large pse dir) (by_large frames cr3 page dir) (by_table ram frames cr3 page dir)) e d t refl one.1 in
     by_size (leb-false frames (cr3 / 4096) one.0) (not-false (has dir 1) two.0) (is_large pse dir) refl two.1
   where
-    of_table : cr3 / 4096 < frames → has (dir_word ram cr3 page) 1 ≡ true → is_large pse (dir_word ram cr3 page) ≡ false → by_table ram frames cr3 page (dir_word ram cr3 page) ≡ Found e d t → IsByTable ram frames cr3 pse page e d t
+    of_table : cr3 / 4096 < frames → has (dir_word ram cr3 page) 1 ≡ true → is_large pse (dir_word ram cr3 page) ≡ false
+        → by_table ram frames cr3 page (dir_word ram cr3 page) ≡ Found e d t → IsByTable ram frames cr3 pse page e d t
     of_table root present small g =
         let dir = dir_word ram cr3 page in
         let word = page_word ram cr3 page in
         let three = second_found (nat_le frames (dir / 4096)) Beyond (by_word frames cr3 page dir word) e d t refl g in
-        let four = second_found (not (has word 1)) Absent (cond (nat_le frames (word / 4096)) Beyond (Found (entry_of page dir word) (dir_place cr3 page) (word_place dir page))) e d t refl three.1 in
-        let five = second_found (nat_le frames (word / 4096)) Beyond (Found (entry_of page dir word) (dir_place cr3 page) (word_place dir page)) e d t refl four.1 in
+        let four = second_found (not (has word 1)) Absent
+        (cond (nat_le frames (word / 4096)) Beyond (Found (entry_of page dir word) (dir_place cr3 page) (word_place dir page)))
+        e d t refl three.1 in
+        let five = second_found (nat_le frames (word / 4096)) Beyond
+        (Found (entry_of page dir word) (dir_place cr3 page) (word_place dir page)) e d t refl four.1 in
         let is = five.1 in
         record {
           root = root;
@@ -86,11 +93,15 @@ walk_parts ram frames cr3 pse page e d t h =
           word_is = cc;
         }
 
-    of_directory : cr3 / 4096 < frames → has (dir_word ram cr3 page) 1 ≡ true → is_large pse (dir_word ram cr3 page) ≡ true → by_large frames cr3 page (dir_word ram cr3 page) ≡ Found e d t → IsLarge ram frames cr3 pse page e d t
+    of_directory : cr3 / 4096 < frames → has (dir_word ram cr3 page) 1 ≡ true → is_large pse (dir_word ram cr3 page) ≡ true
+        → by_large frames cr3 page (dir_word ram cr3 page) ≡ Found e d t → IsLarge ram frames cr3 pse page e d t
     of_directory root present large g =
         let dir = dir_word ram cr3 page in
-        let three = second_found (has_reserved dir) Reserved (cond (nat_le frames (large_frame dir page)) Beyond (Found (large_entry page dir) (dir_place cr3 page) (dir_place cr3 page))) e d t refl g in
-        let four = second_found (nat_le frames (large_frame dir page)) Beyond (Found (large_entry page dir) (dir_place cr3 page) (dir_place cr3 page)) e d t refl three.1 in
+        let three = second_found (has_reserved dir) Reserved
+        (cond (nat_le frames (large_frame dir page)) Beyond (Found (large_entry page dir) (dir_place cr3 page) (dir_place cr3 page))) e d t
+        refl g in
+        let four = second_found (nat_le frames (large_frame dir page)) Beyond
+        (Found (large_entry page dir) (dir_place cr3 page) (dir_place cr3 page)) e d t refl three.1 in
         let is = four.1 in
         record {
           root = root;
@@ -104,11 +115,13 @@ walk_parts ram frames cr3 pse page e d t h =
         }
 
     by_size : cr3 / 4096 < frames → has (dir_word ram cr3 page) 1 ≡ true → (large : Bool) → is_large pse (dir_word ram cr3 page) ≡ large
-        → cond large (by_large frames cr3 page (dir_word ram cr3 page)) (by_table ram frames cr3 page (dir_word ram cr3 page)) ≡ Found e d t → IsWalk ram frames cr3 pse page e d t
+        → cond large (by_large frames cr3 page (dir_word ram cr3 page)) (by_table ram frames cr3 page (dir_word ram cr3 page)) ≡ Found e d t
+        → IsWalk ram frames cr3 pse page e d t
     by_size root present true is g = Large (of_directory root present is g)
     by_size root present false is g = ByTable (of_table root present is g)
 
-table_is : (ram : List ℕ) (frames cr3 : ℕ) (pse : Bool) (page : ℕ) (e : Entry) (d t : ℕ) → IsByTable ram frames cr3 pse page e d t → fresh ram frames cr3 pse page ≡ Found e d t
+table_is : (ram : List ℕ) (frames cr3 : ℕ) (pse : Bool) (page : ℕ) (e : Entry) (d t : ℕ) → IsByTable ram frames cr3 pse page e d t
+    → fresh ram frames cr3 pse page ≡ Found e d t
 unfolding fresh
 table_is ram frames cr3 pse page e d t h =
     let dir : ℕ = dir_word ram cr3 page in
@@ -123,7 +136,8 @@ table_is ram frames cr3 pse page e d t h =
     ∙ ap (λ x. Found e x (word_place dir page)) h.dir_is
     ∙ ap (λ x. Found e d x) h.word_is
 
-large_is : (ram : List ℕ) (frames cr3 : ℕ) (pse : Bool) (page : ℕ) (e : Entry) (d t : ℕ) → IsLarge ram frames cr3 pse page e d t → fresh ram frames cr3 pse page ≡ Found e d t
+large_is : (ram : List ℕ) (frames cr3 : ℕ) (pse : Bool) (page : ℕ) (e : Entry) (d t : ℕ) → IsLarge ram frames cr3 pse page e d t
+    → fresh ram frames cr3 pse page ≡ Found e d t
 unfolding fresh
 large_is ram frames cr3 pse page e d t h =
     let dir : ℕ = dir_word ram cr3 page in
@@ -136,6 +150,7 @@ large_is ram frames cr3 pse page e d t h =
     ∙ ap (λ x. Found e x (dir_place cr3 page)) h.dir_is
     ∙ ap (λ x. Found e d x) h.word_is
 
-pub walk_is : (ram : List ℕ) (frames cr3 : ℕ) (pse : Bool) (page : ℕ) (e : Entry) (d t : ℕ) → IsWalk ram frames cr3 pse page e d t → fresh ram frames cr3 pse page ≡ Found e d t
+pub walk_is : (ram : List ℕ) (frames cr3 : ℕ) (pse : Bool) (page : ℕ) (e : Entry) (d t : ℕ) → IsWalk ram frames cr3 pse page e d t
+    → fresh ram frames cr3 pse page ≡ Found e d t
 walk_is ram frames cr3 pse page e d t (ByTable h) = table_is ram frames cr3 pse page e d t h
 walk_is ram frames cr3 pse page e d t (Large h) = large_is ram frames cr3 pse page e d t h

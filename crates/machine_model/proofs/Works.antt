@@ -54,7 +54,8 @@ pub record Laws : Type 0 where
 
 -- The fetch.
 
-taken_agrees : (at len : ℕ) (t : Touch) (s : Space) (p : Touch × Space) → TouchAgrees (t, s) p → IsExtra rows.is_extra (bytes_fetched at len t s) ⊎ (bytes_fetched at len p.0 p.1 ≡ bared (bytes_fetched at len t s))
+taken_agrees : (at len : ℕ) (t : Touch) (s : Space) (p : Touch × Space) → TouchAgrees (t, s) p
+    → IsExtra rows.is_extra (bytes_fetched at len t s) ⊎ (bytes_fetched at len p.0 p.1 ≡ bared (bytes_fetched at len t s))
 unfolding place
 taken_agrees at len touch.Ready s p (inl e) = absurd (clash e)
 taken_agrees at len touch.Ready s p (inr e) = inr (ap (λ (q : Touch × Space). bytes_fetched at len q.0 q.1) e)
@@ -66,7 +67,10 @@ taken_agrees at len (touch.Stop stop) s p (inr e) = inr (ap (λ (q : Touch × Sp
 fetching_agrees : FetchesAgree → (user : Bool) (at len : ℕ) → Agrees rows.is_extra (fetching user at len)
 unfolding fetching
 fetching_agrees law user at len =
-    record { at_each = λ s. taken_agrees at len (fetches s at len user).0 (fetches s at len user).1 (fetches (bare s) at len user) (law s at len user) }
+    record {
+      at_each = λ s. taken_agrees at len (fetches s at len user).0 (fetches s at len user).1 (fetches (bare s) at len user)
+          (law s at len user);
+    }
 
 front_agrees : (at len : ℕ) → Agrees rows.is_extra (owning_front at len)
 unfolding owning_front
@@ -96,7 +100,8 @@ fetched_agrees law user eip = search (work_steps, fetching_agrees law, by_agrees
 
 -- An instruction's effect.
 
-plainly_told : (cpu : Cpu) (o p : Outcome Refusal Cpu) → IsExtra rows.is_extra o ⊎ (p ≡ bared o) → rows.ToldAgrees (told cpu (done_plainly o)) (told cpu (done_plainly p))
+plainly_told : (cpu : Cpu) (o p : Outcome Refusal Cpu) → IsExtra rows.is_extra o ⊎ (p ≡ bared o)
+    → rows.ToldAgrees (told cpu (done_plainly o)) (told cpu (done_plainly p))
 plainly_told cpu (Ok x) p (inl e) = absurd e
 plainly_told cpu (Ok x) p (inr e) = inr (ap (λ (q : Outcome Refusal Cpu). told cpu (done_plainly q)) e)
 plainly_told cpu (Err (refusal.Fault code at, s)) p (inl e) = absurd (clash e)
@@ -106,11 +111,13 @@ plainly_told cpu (Err (refusal.Raise vector code, s)) p (inr e) = inr (ap (λ (q
 plainly_told cpu (Err (refusal.Stop stop, s)) p (inl e) = inl e
 plainly_told cpu (Err (refusal.Stop stop, s)) p (inr e) = inr (ap (λ (q : Outcome Refusal Cpu). told cpu (done_plainly q)) e)
 
-either_told : (plain : Bool) (cpu : Cpu) (a b c d : Outcome Refusal SysOutcome) → rows.ToldAgrees (told cpu a) (told cpu c) → rows.ToldAgrees (told cpu b) (told cpu d) → rows.ToldAgrees (told cpu (cond plain a b)) (told cpu (cond plain c d))
+either_told : (plain : Bool) (cpu : Cpu) (a b c d : Outcome Refusal SysOutcome) → rows.ToldAgrees (told cpu a) (told cpu c)
+    → rows.ToldAgrees (told cpu b) (told cpu d) → rows.ToldAgrees (told cpu (cond plain a b)) (told cpu (cond plain c d))
 either_told true cpu a b c d h k = h
 either_told false cpu a b c d h k = k
 
-instructed_agrees : Laws → (insn : Insn) (len : ℕ) (cpu : Cpu) (s : Space) → rows.ToldAgrees (told cpu (instructed insn len cpu s)) (told cpu (instructed insn len cpu (bare s)))
+instructed_agrees : Laws → (insn : Insn) (len : ℕ) (cpu : Cpu) (s : Space) → rows.ToldAgrees (told cpu (instructed insn len cpu s))
+    (told cpu (instructed insn len cpu (bare s)))
 unfolding instructed
 instructed_agrees laws insn len cpu s =
     either_told (is_plain insn.op) cpu _ _ _ _
@@ -131,10 +138,12 @@ guarded : (test : Bool) (r : Result) (stop : Stop) → is_extra_stop stop ≡ tr
 guarded true r stop h = inr refl
 guarded false r stop h = inl h
 
-entered_agrees : (m : Setting) (whats : List What) (completed : Option Completed) (b : State) (cpu : Cpu) (board : Board) (s : Space) → Agree (entered m whats completed b cpu board s) (concluded whats completed b cpu board s)
+entered_agrees : (m : Setting) (whats : List What) (completed : Option Completed) (b : State) (cpu : Cpu) (board : Board) (s : Space)
+    → Agree (entered m whats completed b cpu board s) (concluded whats completed b cpu board s)
 entered_agrees m whats completed b cpu board s = guarded (stands_well m cpu) (concluded whats completed b cpu board s) stops.NotAStart refl
 
-delivery_agrees : (m : Setting) (whats : List What) (b : State) (board : Board) (o p : Outcome NotDelivered Cpu) → IsExtra deliveries.is_extra o ⊎ (p ≡ bared o)
+delivery_agrees : (m : Setting) (whats : List What) (b : State) (board : Board) (o p : Outcome NotDelivered Cpu)
+    → IsExtra deliveries.is_extra o ⊎ (p ≡ bared o)
     → Agree (after_delivery m whats b board o) (after_delivery (on_bare m) whats b board p)
 delivery_agrees m whats b board (Ok done) p (inl e) = absurd e
 delivery_agrees m whats b board (Ok done) p (inr e) =
@@ -144,14 +153,17 @@ delivery_agrees m whats b board (Err (not_delivered.Privilege, s)) p (inr e) = i
 delivery_agrees m whats b board (Err (not_delivered.Stop stop, s)) p (inl e) = inl e
 delivery_agrees m whats b board (Err (not_delivered.Stop stop, s)) p (inr e) = inr (ap (after_delivery (on_bare m) whats b board) e)
 
-raised_agrees : deliveries.DeliveriesAgree → (m : Setting) (b : State) (cpu : Cpu) (vector code : ℕ) (s : Space) → Agree (raised m b cpu vector code s) (raised (on_bare m) b cpu vector code (bare s))
+raised_agrees : deliveries.DeliveriesAgree → (m : Setting) (b : State) (cpu : Cpu) (vector code : ℕ) (s : Space)
+    → Agree (raised m b cpu vector code s) (raised (on_bare m) b cpu vector code (bare s))
 raised_agrees law m b cpu vector code s =
-    delivery_agrees m [] b b.board (delivered cpu vector Raised (code_of vector code) s) (delivered cpu vector Raised (code_of vector code) (bare s))
+    delivery_agrees m [] b b.board (delivered cpu vector Raised (code_of vector code) s)
+    (delivered cpu vector Raised (code_of vector code) (bare s))
     ((law cpu vector Raised (code_of vector code)).at_each s)
 
 effect_agrees : deliveries.DeliveriesAgree → (m : Setting) (b : State) (completed : Completed) (e : SysEffect) (cpu : Cpu) (s : Space)
     → Agree (after_effect m b completed e cpu s) (after_effect (on_bare m) b completed e cpu (bare s))
-effect_agrees law m b completed effects.Next cpu s = guarded (may_leave m.mode b.cpu cpu) (concluded [] (Some completed) b cpu b.board s) stops.UserFlags refl
+effect_agrees law m b completed effects.Next cpu s =
+    guarded (may_leave m.mode b.cpu cpu) (concluded [] (Some completed) b cpu b.board s) stops.UserFlags refl
 effect_agrees law m b completed effects.Halted cpu s = inr refl
 effect_agrees law m b completed (effects.DropPage page) cpu s = inr refl
 effect_agrees law m b completed (effects.DropDir index) cpu s = inr refl
@@ -162,7 +174,8 @@ effect_agrees law m b completed (effects.Raise vector code) cpu s = raised_agree
 effect_agrees law m b completed (effects.Stop stop) cpu s = inr refl
 
 -- one of the monitor's stops ends the step
-stopped_effect : (m : Setting) (b : State) (completed : Completed) (e : SysEffect) (cpu : Cpu) (s : Space) → rows.is_extra_effect e ≡ true → is_extra (after_effect m b completed e cpu s) ≡ true
+stopped_effect : (m : Setting) (b : State) (completed : Completed) (e : SysEffect) (cpu : Cpu) (s : Space) → rows.is_extra_effect e ≡ true
+    → is_extra (after_effect m b completed e cpu s) ≡ true
 stopped_effect m b completed (effects.Stop stop) cpu s h = h
 stopped_effect m b completed effects.Next cpu s h = absurd (clash h)
 stopped_effect m b completed effects.Halted cpu s h = absurd (clash h)
@@ -173,11 +186,14 @@ stopped_effect m b completed (effects.PortIn port wide) cpu s h = absurd (clash 
 stopped_effect m b completed (effects.PortOut port wide value) cpu s h = absurd (clash h)
 stopped_effect m b completed (effects.Raise vector code) cpu s h = absurd (clash h)
 
-told_agrees : deliveries.DeliveriesAgree → (m : Setting) (b : State) (completed : Completed) (o p : SysEffect × Cpu × Space) → rows.ToldAgrees o p → Agree (effect_on m b completed o) (effect_on (on_bare m) b completed p)
+told_agrees : deliveries.DeliveriesAgree → (m : Setting) (b : State) (completed : Completed) (o p : SysEffect × Cpu × Space)
+    → rows.ToldAgrees o p → Agree (effect_on m b completed o) (effect_on (on_bare m) b completed p)
 told_agrees law m b completed o p (inl h) = inl (stopped_effect m b completed o.0 o.1 o.2 h)
-told_agrees law m b completed o p (inr h) = onward _ _ _ (ap (effect_on (on_bare m) b completed) h) (effect_agrees law m b completed o.0 o.1 o.2)
+told_agrees law m b completed o p (inr h) =
+    onward _ _ _ (ap (effect_on (on_bare m) b completed) h) (effect_agrees law m b completed o.0 o.1 o.2)
 
-software_agrees : deliveries.DeliveriesAgree → (m : Setting) (b : State) (completed : Completed) (vector : ℕ) (o p : Outcome NotDelivered Cpu) → IsExtra deliveries.is_extra o ⊎ (p ≡ bared o)
+software_agrees : deliveries.DeliveriesAgree → (m : Setting) (b : State) (completed : Completed) (vector : ℕ)
+    (o p : Outcome NotDelivered Cpu) → IsExtra deliveries.is_extra o ⊎ (p ≡ bared o)
     → Agree (after_software m b completed vector o) (after_software (on_bare m) b completed vector p)
 software_agrees law m b completed vector (Ok done) p (inl e) = absurd e
 software_agrees law m b completed vector (Ok done) p (inr e) =
@@ -186,29 +202,37 @@ software_agrees law m b completed vector (Err (not_delivered.Privilege, s)) p (i
 software_agrees law m b completed vector (Err (not_delivered.Privilege, s)) p (inr e) =
     onward _ _ _ (ap (after_software (on_bare m) b completed vector) e) (raised_agrees law m b b.cpu 13 (8 * vector + 2) s)
 software_agrees law m b completed vector (Err (not_delivered.Stop stop, s)) p (inl e) = inl e
-software_agrees law m b completed vector (Err (not_delivered.Stop stop, s)) p (inr e) = inr (ap (after_software (on_bare m) b completed vector) e)
+software_agrees law m b completed vector (Err (not_delivered.Stop stop, s)) p (inr e) =
+    inr (ap (after_software (on_bare m) b completed vector) e)
 
-interrupt_agrees : Laws → (m : Setting) (b : State) (completed : Completed) (len vector : ℕ) (s : Space) → Agree (interrupts_by m b completed len vector s) (interrupts_by (on_bare m) b completed len vector (bare s))
+interrupt_agrees : Laws → (m : Setting) (b : State) (completed : Completed) (len vector : ℕ) (s : Space)
+    → Agree (interrupts_by m b completed len vector s) (interrupts_by (on_bare m) b completed len vector (bare s))
 interrupt_agrees laws m b completed len vector s =
-    software_agrees laws.deliveries m b completed vector (delivered (past b.cpu len) vector Soft None s) (delivered (past b.cpu len) vector Soft None (bare s))
+    software_agrees laws.deliveries m b completed vector (delivered (past b.cpu len) vector Soft None s)
+    (delivered (past b.cpu len) vector Soft None (bare s))
     ((laws.deliveries (past b.cpu len) vector Soft None).at_each s)
 
 row_agrees : Laws → (m : Setting) (b : State) (insn : Insn) (len : ℕ) (s : Space)
-    → Agree (effect_on m b (begun b insn) (told b.cpu (instructed insn len b.cpu s))) (effect_on (on_bare m) b (begun b insn) (told b.cpu (instructed insn len b.cpu (bare s))))
+    → Agree (effect_on m b (begun b insn) (told b.cpu (instructed insn len b.cpu s)))
+    (effect_on (on_bare m) b (begun b insn) (told b.cpu (instructed insn len b.cpu (bare s))))
 row_agrees laws m b insn len s =
-    told_agrees laws.deliveries m b (begun b insn) (told b.cpu (instructed insn len b.cpu s)) (told b.cpu (instructed insn len b.cpu (bare s))) (instructed_agrees laws insn len b.cpu s)
+    told_agrees laws.deliveries m b (begun b insn) (told b.cpu (instructed insn len b.cpu s))
+    (told b.cpu (instructed insn len b.cpu (bare s))) (instructed_agrees laws insn len b.cpu s)
 
-op_agrees : Laws → (m : Setting) (o : Op) (b : State) (insn : Insn) (len : ℕ) (s : Space) → Agree (by_op m o b insn len s) (by_op (on_bare m) o b insn len (bare s))
+op_agrees : Laws → (m : Setting) (o : Op) (b : State) (insn : Insn) (len : ℕ) (s : Space)
+    → Agree (by_op m o b insn len s) (by_op (on_bare m) o b insn len (bare s))
 op_agrees laws m op.Int b insn len s = interrupt_agrees laws m b (begun b insn) len (insn.imm % 256) s
 op_agrees laws m op.Int3 b insn len s = interrupt_agrees laws m b (begun b insn) len 3 s
 op_agrees laws m _ b insn len s = row_agrees laws m b insn len s
 
-decoded_agrees : Laws → (m : Setting) (b : State) (d : Decoded) (s : Space) → Agree (by_decoded m b d s) (by_decoded (on_bare m) b d (bare s))
+decoded_agrees : Laws → (m : Setting) (b : State) (d : Decoded) (s : Space)
+    → Agree (by_decoded m b d s) (by_decoded (on_bare m) b d (bare s))
 decoded_agrees laws m b (begins.Insn insn len) s = op_agrees laws m insn.op b insn len s
 decoded_agrees laws m b begins.Short s = inr refl
 decoded_agrees laws m b begins.Outside s = inr refl
 
-refusal_agrees : Laws → (m : Setting) (b : State) (r : Refusal) (s : Space) → Agree (after_refusal m b r s) (after_refusal (on_bare m) b r (bare s))
+refusal_agrees : Laws → (m : Setting) (b : State) (r : Refusal) (s : Space)
+    → Agree (after_refusal m b r s) (after_refusal (on_bare m) b r (bare s))
 refusal_agrees laws m b (refusal.Fault code at) s = raised_agrees laws.deliveries m b (record b.cpu { cr2 = at }) 14 code s
 refusal_agrees laws m b (refusal.Raise vector code) s = raised_agrees laws.deliveries m b b.cpu vector code s
 refusal_agrees laws m b (refusal.Stop stop) s = inr refl
@@ -218,16 +242,19 @@ extra_refusal m b (refusal.Fault code at) s h = absurd (clash h)
 extra_refusal m b (refusal.Raise vector code) s h = absurd (clash h)
 extra_refusal m b (refusal.Stop stop) s h = h
 
-fetch_agrees : Laws → (m : Setting) (b : State) (o p : Outcome Refusal Decoded) → IsExtra rows.is_extra o ⊎ (p ≡ bared o) → Agree (after_fetch m b o) (after_fetch (on_bare m) b p)
+fetch_agrees : Laws → (m : Setting) (b : State) (o p : Outcome Refusal Decoded) → IsExtra rows.is_extra o ⊎ (p ≡ bared o)
+    → Agree (after_fetch m b o) (after_fetch (on_bare m) b p)
 fetch_agrees laws m b (Ok read) p (inl e) = absurd e
 fetch_agrees laws m b (Ok read) p (inr e) = onward _ _ _ (ap (after_fetch (on_bare m) b) e) (decoded_agrees laws m b read.0 read.1)
 fetch_agrees laws m b (Err refused) p (inl e) = inl (extra_refusal m b refused.0 refused.1 e)
-fetch_agrees laws m b (Err refused) p (inr e) = onward _ _ _ (ap (after_fetch (on_bare m) b) e) (refusal_agrees laws m b refused.0 refused.1)
+fetch_agrees laws m b (Err refused) p (inr e) =
+    onward _ _ _ (ap (after_fetch (on_bare m) b) e) (refusal_agrees laws m b refused.0 refused.1)
 
 next_agrees : Laws → (m : Setting) (b : State) (s : Space) → Agree (fetches_next m b s) (fetches_next (on_bare m) b (bare s))
 next_agrees laws m b s =
     let user = b.cpu.cpl == 3 in
-    fetch_agrees laws m b (fetched user b.cpu.regs.eip s) (fetched user b.cpu.regs.eip (bare s)) ((fetched_agrees laws.fetches user b.cpu.regs.eip).at_each s)
+    fetch_agrees laws m b (fetched user b.cpu.regs.eip s) (fetched user b.cpu.regs.eip (bare s))
+    ((fetched_agrees laws.fetches user b.cpu.regs.eip).at_each s)
 
 tested : (test : Bool) (r p : Result) (stop : Stop) → is_extra_stop stop ≡ true → Agree r p → Agree (cond test r (Halts stop)) p
 tested true r p stop h k = k
@@ -244,18 +271,21 @@ worked_agrees : Laws → (m : Setting) (b : State) (s : Space) → Agree (worked
 unfolding worked
 worked_agrees laws m b s = either b.cpu.halted _ _ _ _ (inr refl) (begins_agrees laws m b s)
 
-interrupted_agrees : Laws → (m : Setting) (b : State) (v : ℕ) (s : Space) → Agree (interrupted m b v s) (interrupted (on_bare m) b v (bare s))
+interrupted_agrees : Laws → (m : Setting) (b : State) (v : ℕ) (s : Space)
+    → Agree (interrupted m b v s) (interrupted (on_bare m) b v (bare s))
 unfolding interrupted
 interrupted_agrees laws m b v s =
     delivery_agrees m (Irq v ∷ []) b (acknowledged b.board) (delivered b.cpu v External None s) (delivered b.cpu v External None (bare s))
     ((laws.deliveries b.cpu v External None).at_each s)
 
-by_interrupt_agrees : Laws → (m : Setting) (v : Option ℕ) (b : State) (s : Space) → Agree (by_interrupt m v b s) (by_interrupt (on_bare m) v b (bare s))
+by_interrupt_agrees : Laws → (m : Setting) (v : Option ℕ) (b : State) (s : Space)
+    → Agree (by_interrupt m v b s) (by_interrupt (on_bare m) v b (bare s))
 by_interrupt_agrees laws m None b s = worked_agrees laws m b s
 by_interrupt_agrees laws m (Some v) b s = interrupted_agrees laws m b v s
 
 stepped_agrees : Laws → (m : Setting) (b : State) → Agree (stepped m b) (stepped (on_bare m) b)
-stepped_agrees laws m b = by_interrupt_agrees laws m (interrupt_of b.cpu b.board) (unheld b) (space_at_start m.mode m.frames b.cpu b.ram b.set)
+stepped_agrees laws m b =
+    by_interrupt_agrees laws m (interrupt_of b.cpu b.board) (unheld b) (space_at_start m.mode m.frames b.cpu b.ram b.set)
 
 pub steps_agree : Laws → StepsAgree
 unfolding step_of
@@ -267,17 +297,27 @@ loosened : (m : Setting) (b : State) (set : Set) → Loosened m b set → Loosen
 loosened m b set h = record {
   each = λ page e is. elim (h.each page e is) [
     | inl k ↦ inl k
-    | inr k ↦ inr (record { page_in = k.page_in; dir_at = k.dir_at; word_at = k.word_at; dirty = k.dirty; found = k.found; accessed = k.accessed; is_dirty = k.is_dirty })
+    | inr k ↦ inr (record {
+      page_in = k.page_in;
+      dir_at = k.dir_at;
+      word_at = k.word_at;
+      dirty = k.dirty;
+      found = k.found;
+      accessed = k.accessed;
+      is_dirty = k.is_dirty;
+    })
   ];
 }
 
-pub went_agrees : StepsAgree → (m : Setting) (b new : State) (set : Set) (report : Report) → step_of m b set ≡ Went report new → step_of (on_bare m) b set ≡ Went report new
+pub went_agrees : StepsAgree → (m : Setting) (b new : State) (set : Set) (report : Report) → step_of m b set ≡ Went report new
+    → step_of (on_bare m) b set ≡ Went report new
 went_agrees law m b new set report is = elim (law m b set) [
   | inl h ↦ absurd (clash (ap is_extra (sym is) ∙ h))
   | inr h ↦ h ∙ is
 ]
 
-pub all_steps : StepsAgree → (m : Setting) (old new : State) (sets : List Set) (reports : List Report) → Steps m old sets reports new → Steps (on_bare m) old sets reports new
+pub all_steps : StepsAgree → (m : Setting) (old new : State) (sets : List Set) (reports : List Report) → Steps m old sets reports new
+    → Steps (on_bare m) old sets reports new
 unfolding Steps
 all_steps law m old new [] reports steps = steps
 all_steps law m old new (set ∷ sets) reports steps = (
@@ -290,19 +330,30 @@ all_steps law m old new (set ∷ sets) reports steps = (
   steps.6,
 )
 
-pub halts_agrees : StepsAgree → (m : Setting) (b : State) (set : Set) (stop : Stop) → is_extra_stop stop ≡ false → step_of m b set ≡ Halts stop → step_of (on_bare m) b set ≡ Halts stop
+pub halts_agrees : StepsAgree → (m : Setting) (b : State) (set : Set) (stop : Stop) → is_extra_stop stop ≡ false
+    → step_of m b set ≡ Halts stop → step_of (on_bare m) b set ≡ Halts stop
 halts_agrees law m b set stop plain is = elim (law m b set) [
   | inl h ↦ absurd (clash (sym plain ∙ (ap is_extra (sym is) ∙ h)))
   | inr h ↦ h ∙ is
 ]
 
-ends_agree : StepsAgree → (m : Setting) (n : ℕ) (last : State) (stop : Stop) (extra : Bool) → is_extra_stop stop ≡ extra → EndsIn m n last (Stopped stop)
+ends_agree : StepsAgree → (m : Setting) (n : ℕ) (last : State) (stop : Stop) (extra : Bool) → is_extra_stop stop ≡ extra
+    → EndsIn m n last (Stopped stop)
     → EndsIn (on_bare m) (cond extra last.step n) last (cond extra Bound (Stopped stop))
 ends_agree law m n last stop true is h = refl
-ends_agree law m n last stop false is h =
-    (h.0, record { set = h.1.set; allowed = loosened m last h.1.set h.1.allowed; halts = halts_agrees law m last h.1.set stop is h.1.halts })
+ends_agree law m n last stop false is h = (
+  h.0,
+  record {
+    set = h.1.set;
+    allowed = loosened m last h.1.set h.1.allowed;
+    halts = halts_agrees law m last h.1.set stop is h.1.halts;
+  },
+)
 
 pub runs_agree : StepsAgree → RunsAgree
 runs_agree law m n old sets reports last Bound run = record { steps = all_steps law m old last sets reports run.steps; ends = run.ends }
 runs_agree law m n old sets reports last (Stopped stop) run =
-    record { steps = all_steps law m old last sets reports run.steps; ends = ends_agree law m n last stop (is_extra_stop stop) refl run.ends }
+    record {
+      steps = all_steps law m old last sets reports run.steps;
+      ends = ends_agree law m n last stop (is_extra_stop stop) refl run.ends;
+    }

@@ -30,28 +30,36 @@ unready_ends o new e f = clash (sym e ∙ ap (λ (p : Touch × Space). is_ready 
 abbrev Made : ℕ → ℕ → Bool → Space → Type 0
 Made at len write new = (u : Space) × ((made_ready at len write u).1 ≡ new)
 
-after_second : (at len : ℕ) (write : Bool) (met : Touch) (s new : Space) → go_on met s (made_ready at len write) ≡ (Ready, new) → Made at len write new
+after_second : (at len : ℕ) (write : Bool) (met : Touch) (s new : Space) → go_on met s (made_ready at len write) ≡ (Ready, new)
+    → Made at len write new
 after_second at len write Ready s new e = (s, ap (λ (p : Touch × Space). p.1) e)
 after_second at len write (Fault code cr2) s new e = absurd (unready_ends (Fault code cr2, s) new refl e)
 after_second at len write (Stop stop) s new e = absurd (unready_ends (Stop stop, s) new refl e)
 
-after_first : (at len : ℕ) (access : Access) (met : Touch) (s new : Space) → go_on met s (λ t. and_then (second_page at len access t) (made_ready at len access.write)) ≡ (Ready, new) → Made at len access.write new
-after_first at len access Ready s new e = after_second at len access.write (second_page at len access s).0 (second_page at len access s).1 new e
+after_first : (at len : ℕ) (access : Access) (met : Touch) (s new : Space)
+    → go_on met s (λ t. and_then (second_page at len access t) (made_ready at len access.write)) ≡ (Ready, new)
+    → Made at len access.write new
+after_first at len access Ready s new e =
+    after_second at len access.write (second_page at len access s).0 (second_page at len access s).1 new e
 after_first at len access (Fault code cr2) s new e = absurd (unready_ends (Fault code cr2, s) new refl e)
 after_first at len access (Stop stop) s new e = absurd (unready_ends (Stop stop, s) new refl e)
 
-after_window : (w : Option reason.Stop) (at len : ℕ) (access : Access) (s new : Space) → by_window w at len access s ≡ (Ready, new) → Made at len access.write new
-after_window None at len access s new e = after_first at len access (page_uses s false (at / 4096) at access).0 (page_uses s false (at / 4096) at access).1 new e
+after_window : (w : Option reason.Stop) (at len : ℕ) (access : Access) (s new : Space) → by_window w at len access s ≡ (Ready, new)
+    → Made at len access.write new
+after_window None at len access s new e =
+    after_first at len access (page_uses s false (at / 4096) at access).0 (page_uses s false (at / 4096) at access).1 new e
 after_window (Some stop) at len access s new e = absurd (unready_ends (Stop stop, s) new refl e)
 
-after_wrap : (wraps : Bool) (at len : ℕ) (access : Access) (a b : Touch × Space) (new : Space) → is_ready a.0 ≡ false → (b ≡ (Ready, new) → Made at len access.write new) → cond wraps a b ≡ (Ready, new) → Made at len access.write new
+after_wrap : (wraps : Bool) (at len : ℕ) (access : Access) (a b : Touch × Space) (new : Space) → is_ready a.0 ≡ false
+    → (b ≡ (Ready, new) → Made at len access.write new) → cond wraps a b ≡ (Ready, new) → Made at len access.write new
 after_wrap true at len access a b new h f e = absurd (unready_ends a new h e)
 after_wrap false at len access a b new h f e = f e
 
 made : (s new : Space) (at len : ℕ) (access : Access) → uses s at len access ≡ (Ready, new) → Made at len access.write new
 unfolding uses
 made s new at len access e =
-    after_wrap (nat_lt (2 ^ 32) (at + len)) at len access (Stop stops.WrapAccess, unready s) (by_window (window_stop s.mode access at) at len access (unready s)) new refl
+    after_wrap (nat_lt (2 ^ 32) (at + len)) at len access (Stop stops.WrapAccess, unready s)
+    (by_window (window_stop s.mode access at) at len access (unready s)) new refl
     (after_window (window_stop s.mode access at) at len access (unready s) new) e
 
 -- the frame of a byte is that of its page
@@ -68,7 +76,8 @@ pages_hold true a b c f h = first_in a c [] (sym (f refl))
 pages_hold false a b c f (inl e) = first_in a c (b ∷ []) (sym e)
 pages_hold false a b c f (inr e) = next_in a c (b ∷ []) (first_in b c [] (sym e))
 
-frames_hold : (u : Space) (at len byte : ℕ) → at ≤ byte → byte < at + len → len ≤ 4096 → Contains (frames_of u at len) (frame_by (get u.set (byte / 4096)))
+frames_hold : (u : Space) (at len byte : ℕ) → at ≤ byte → byte < at + len → len ≤ 4096
+    → Contains (frames_of u at len) (frame_by (get u.set (byte / 4096)))
 frames_hold u at len byte low high short =
     let frame : ℕ → ℕ = λ page. frame_by (get u.set page) in
     pages_hold ((at + len - 1) / 4096 == at / 4096) (frame (at / 4096)) (frame ((at + len - 1) / 4096)) (frame (byte / 4096))
@@ -82,7 +91,8 @@ frames_hold u at len byte low high short =
       | inr n ↦ let last : byte / 4096 ≡ (at + len - 1) / 4096 = omega (arith, n.1) in inr (ap frame last)
     ])
 
-noted_in : (u new : Space) (at len byte : ℕ) → (made_ready at len true u).1 ≡ new → at ≤ byte → byte < at + len → len ≤ 4096 → Contains new.wrote (place new byte / 4096)
+noted_in : (u new : Space) (at len byte : ℕ) → (made_ready at len true u).1 ≡ new → at ≤ byte → byte < at + len → len ≤ 4096
+    → Contains new.wrote (place new byte / 4096)
 unfolding place
 noted_in u new at len byte e low high short =
     subst (λ (t : Space). Contains t.wrote (place t byte / 4096)) e

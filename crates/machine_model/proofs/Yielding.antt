@@ -10,11 +10,13 @@ Ends P (Err e) = Unit {0}
 pub record Yields {E A : Type 0} (P : A → Type 0) (w : Work E A) : Type 0 where
   pub each : (s : Space) → Ends P (w s)
 
-after : {E A B : Type 0} (P : A → Type 0) (Q : B → Type 0) (o : Outcome E A) (f : A → Work E B) → Ends P o → ((x : A) → P x → Yields Q (f x)) → Ends Q (on_value o f)
+after : {E A B : Type 0} (P : A → Type 0) (Q : B → Type 0) (o : Outcome E A) (f : A → Work E B) → Ends P o
+    → ((x : A) → P x → Yields Q (f x)) → Ends Q (on_value o f)
 after P Q (Ok x) f p h = (h x.0 p).each x.1
 after P Q (Err e) f p h = tt
 
-pub then_yields : {E A B : Type 0} {P : A → Type 0} {Q : B → Type 0} {m : Work E A} {f : A → Work E B} → Yields P m → ((x : A) → P x → Yields Q (f x)) → Yields Q (m >>= f)
+pub then_yields : {E A B : Type 0} {P : A → Type 0} {Q : B → Type 0} {m : Work E A} {f : A → Work E B} → Yields P m
+    → ((x : A) → P x → Yields Q (f x)) → Yields Q (m >>= f)
 then_yields {P = P} {Q = Q} {m = m} {f = f} hm hf = record { each = λ s. after P Q (m s) f (hm.each s) hf }
 
 after_any : {E A B : Type 0} (Q : B → Type 0) (o : Outcome E A) (f : A → Work E B) → ((x : A) → Yields Q (f x)) → Ends Q (on_value o f)
@@ -41,7 +43,8 @@ if_yields true h k = h
 if_yields false h k = k
 
 -- by what the test says
-pub by_yields : {E A : Type 0} {P : A → Type 0} {w v : Work E A} (test : Bool) → (test ≡ true → Yields P w) → (test ≡ false → Yields P v) → Yields P (cond test w v)
+pub by_yields : {E A : Type 0} {P : A → Type 0} {w v : Work E A} (test : Bool) → (test ≡ true → Yields P w) → (test ≡ false → Yields P v)
+    → Yields P (cond test w v)
 by_yields true h k = h refl
 by_yields false h k = k refl
 

@@ -18,12 +18,14 @@ pub record IsAble (cpu : Cpu) : Type 0 where
 -- a step that goes keeps it
 abbrev pub StepsKeepAble : Type 0
 StepsKeepAble =
-    (m : Setting) (b : State) → m.mode ≡ wedge_mode m.image → IsAble b.cpu → (report : Report) (after : State) → stepped m b ≡ Went report after → IsAble after.cpu
+    (m : Setting) (b : State) → m.mode ≡ wedge_mode m.image → IsAble b.cpu → (report : Report) (after : State)
+    → stepped m b ≡ Went report after → IsAble after.cpu
 
 -- and so do steps one after another
 abbrev pub RunsKeepAble : Type 0
 RunsKeepAble =
-    (m : Setting) (old new : State) (sets : List Set) (reports : List Report) → m.mode ≡ wedge_mode m.image → Steps m old sets reports new → IsAble old.cpu → IsAble new.cpu
+    (m : Setting) (old new : State) (sets : List Set) (reports : List Report) → m.mode ≡ wedge_mode m.image → Steps m old sets reports new
+    → IsAble old.cpu → IsAble new.cpu
 
 abbrev pub EachRunBeginsAble : Type 0
 EachRunBeginsAble = (s : Setting) → IsAble (boot s).cpu

@@ -20,7 +20,8 @@ use Rattle.machine_model.specs.Counts.{is_software, direct_in}
 pub record Reads (m : Setting) (b : State) (insn : Insn) : Type 0 where
   pub len : ℕ
   pub after : Space
-  pub fetches : fetched (b.cpu.cpl == 3) b.cpu.regs.eip (space_at_start m.mode m.frames b.cpu b.ram b.set) ≡ Ok (begins.Insn insn len, after)
+  pub fetches : fetched (b.cpu.cpl == 3) b.cpu.regs.eip (space_at_start m.mode m.frames b.cpu b.ram b.set) ≡ Ok
+      (begins.Insn insn len, after)
 
 -- a user's processor: level 3, IF 1 and IOPL 0
 abbrev pub is_user : Cpu → Bool
@@ -75,13 +76,15 @@ is_native user o = is_none (kind_of o)
 -- where an interrupt is taken, or the processor is halted, nothing is completed
 abbrev pub WaitsCountNothing : Type 0
 WaitsCountNothing =
-    (m : Setting) (b : State) (report : Report) (after : State) → (b.cpu.halted ≡ true) ⊎ (is_some (interrupt_of b.cpu b.board) ≡ true) → stepped m b ≡ Went report after
+    (m : Setting) (b : State) (report : Report) (after : State) → (b.cpu.halted ≡ true) ⊎ (is_some (interrupt_of b.cpu b.board) ≡ true)
+    → stepped m b ≡ Went report after
     → report.completed ≡ None
 
 -- nor is anything direct that begins in a site at level 0
 abbrev pub SitesCountNothing : Type 0
 SitesCountNothing =
-    (m : Setting) (b : State) (report : Report) (after : State) (sites : List Site) → (b.cpu.cpl == 3) ≡ false → is_site_at sites b.cpu.regs.eip ≡ true → stepped m b ≡ Went report after
+    (m : Setting) (b : State) (report : Report) (after : State) (sites : List Site) → (b.cpu.cpl == 3) ≡ false
+    → is_site_at sites b.cpu.regs.eip ≡ true → stepped m b ≡ Went report after
     → direct_in sites report.completed ≡ []
 
 -- nor INT and INT3, nor what a user's processor doesn't do by itself
@@ -94,6 +97,7 @@ OthersCountNothing =
 -- What it does by itself, by a user or outside the sites, is direct where it is completed.
 abbrev pub NativesAreDirect : Type 0
 NativesAreDirect =
-    (m : Setting) (b : State) (report : Report) (after : State) (sites : List Site) (insn : Insn) (c : Completed) → Reads m b insn → is_native (b.cpu.cpl == 3) insn.op ≡ true
+    (m : Setting) (b : State) (report : Report) (after : State) (sites : List Site) (insn : Insn) (c : Completed) → Reads m b insn
+    → is_native (b.cpu.cpl == 3) insn.op ≡ true
     → (b.cpu.cpl ≡ 3) ⊎ (is_site_at sites b.cpu.regs.eip ≡ false) → stepped m b ≡ Went report after → report.completed ≡ Some c
     → direct_in sites report.completed ≡ b.cpu.regs.eip ∷ []

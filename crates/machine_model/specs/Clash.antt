@@ -39,7 +39,8 @@ uses_of access (Some r) =
 
 -- the read range, then the write range, or neither where a null segment denies them
 abbrev pub ranges_used : Cpu → Ranges → List Use
-ranges_used cpu ranges = if is_refused cpu ranges then [] else uses_of (by_level cpu false) ranges.read ++ uses_of (by_level cpu true) ranges.write
+ranges_used cpu ranges =
+    if is_refused cpu ranges then [] else uses_of (by_level cpu false) ranges.read ++ uses_of (by_level cpu true) ranges.write
 
 abbrev pub range_uses : State → Decoded → List Use
 range_uses b (begins.Insn insn len) = ranges_used b.cpu (ranges_of insn b.cpu.regs)

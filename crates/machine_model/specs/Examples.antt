@@ -35,12 +35,15 @@ first_sites = record { at = 7; kind = kind.PortOut; len = 1; total = 5 } ∷ rec
 
 abbrev pub first_reports : List Report
 first_reports =
-    report_of op.Mov false 0x10000000 ∷ report_of op.Mov false 0x10000005 ∷ report_of op.PortOut false 0x10000007 ∷ report_of op.Nop false 0x10000008
-    ∷ report_of op.Nop false 0x10000009 ∷ report_of op.Nop false 0x1000000A ∷ report_of op.Nop false 0x1000000B ∷ report_of op.Hlt false 0x1000000C ∷ nothing ∷ []
+    report_of op.Mov false 0x10000000 ∷ report_of op.Mov false 0x10000005 ∷ report_of op.PortOut false 0x10000007 ∷ report_of
+    op.Nop false 0x10000008
+    ∷ report_of op.Nop false 0x10000009 ∷ report_of op.Nop false 0x1000000A ∷ report_of op.Nop false 0x1000000B ∷ report_of op.Hlt false
+    0x1000000C ∷ nothing ∷ []
 
 -- of a user's code INT, a load of a segment register and IRET don't count, and addresses of sites do
 abbrev pub user_reports : List Report
-user_reports = report_of op.Int true 0x400000 ∷ report_of op.LoadSeg true 0x400002 ∷ report_of op.Iret true 0x400004 ∷ report_of op.Mov true 0x10000007 ∷ []
+user_reports = report_of op.Int true 0x400000 ∷ report_of op.LoadSeg true 0x400002 ∷ report_of op.Iret true 0x400004 ∷ report_of op.Mov
+    true 0x10000007 ∷ []
 
 abbrev pub entry_of : Bool → Entry
 entry_of dirty = record { page = 0x11400; frame = 0x400; user = false; write = true; dirty = dirty }

@@ -51,13 +51,15 @@ StepsFollow =
 -- A step changes memory in the frames that it reports as written and, outside them, by flags that come on.
 abbrev pub StepsKeepMemory : Type 0
 StepsKeepMemory =
-    (m : Setting) (b : State) (set : Set) (report : Report) (b2 : State) → step_of m b set ≡ Went report b2 → MemoryFollows report.wrote b.ram b2.ram
+    (m : Setting) (b : State) (set : Set) (report : Report) (b2 : State) → step_of m b set ≡ Went report b2
+    → MemoryFollows report.wrote b.ram b2.ram
 
 -- It changes nothing in a frame that it reports neither as written nor as a table, where the pages that it went through
 -- are those of the address space.
 abbrev pub OthersStay : Type 0
 OthersStay =
-    (m : Setting) (b : State) (set : Set) (report : Report) (b2 : State) (at : ℕ) → step_of m b set ≡ Went report b2 → ArePages report.pages → at < length b.ram
+    (m : Setting) (b : State) (set : Set) (report : Report) (b2 : State) (at : ℕ) → step_of m b set ≡ Went report b2
+    → ArePages report.pages → at < length b.ram
     → (Contains report.wrote (at / 4096) → ⊥) → (Contains report.tables (at / 4096) → ⊥) → byte b2.ram at ≡ byte b.ram at
 
 -- Where a step writes no frame of which the test holds, what a walk finds by words in such frames it finds after the
@@ -79,4 +81,5 @@ SetsAreFound =
 -- what is found of a page from the directory in use may be added to the translations before a step
 abbrev pub FoundAreCacheable : Type 0
 FoundAreCacheable =
-    (m : Setting) (b : State) (tables : ℕ → Bool) (page : ℕ) (e : Entry) → page < 2 ^ 20 → IsFoundBy b.ram m.frames b.cpu.cr3 (pse_of b.cpu) tables page e → IsCacheable m b page e
+    (m : Setting) (b : State) (tables : ℕ → Bool) (page : ℕ) (e : Entry) → page < 2 ^ 20 → IsFoundBy b.ram m.frames b.cpu.cr3 (pse_of b.cpu)
+    tables page e → IsCacheable m b page e

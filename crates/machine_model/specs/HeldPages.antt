@@ -15,11 +15,13 @@ HoldsPages set = (page : ℕ) → ForSome (get set page) (λ e. page < 2 ^ 20)
 -- A step that uses such translations, and that uses such pages alone, leaves such translations.
 abbrev pub StepsLeavePages : Type 0
 StepsLeavePages =
-    (m : Setting) (b : State) (set : Set) (report : Report) (after : State) → step_of m b set ≡ Went report after → ArePages report.pages → HoldsPages set → HoldsPages after.set
+    (m : Setting) (b : State) (set : Set) (report : Report) (after : State) → step_of m b set ≡ Went report after → ArePages report.pages
+    → HoldsPages set → HoldsPages after.set
 
 -- So where a run begins with such translations, as at its start with none, and its steps use such pages alone, each of them
 -- uses such translations, and so does each step that may come next.
 abbrev pub RunsHoldPages : Type 0
 RunsHoldPages =
-    (m : Setting) (old new : State) (sets : List Set) (reports : List Report) → Steps m old sets reports new → HoldsPages old.set → All (λ (r : Report). ArePages r.pages) reports
+    (m : Setting) (old new : State) (sets : List Set) (reports : List Report) → Steps m old sets reports new → HoldsPages old.set
+    → All (λ (r : Report). ArePages r.pages) reports
     → All HoldsPages sets × ((set : Set) → Loosened m new set → HoldsPages set)

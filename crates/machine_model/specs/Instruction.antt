@@ -69,7 +69,8 @@ fetched_by user eip front (begins.Insn insn len) = do
   _ ← owning_front eip len
   gives (begins.Insn insn len)
 fetched_by user eip front begins.Outside = gives begins.Outside
-fetched_by user eip front begins.Short = if eip / 4096 == LAST_PAGE then refuses (refusal.Stop stops.WrapAccess) else fetched_on user eip front
+fetched_by user eip front begins.Short =
+    if eip / 4096 == LAST_PAGE then refuses (refusal.Stop stops.WrapAccess) else fetched_on user eip front
 
 -- the instruction at a linear address
 unfoldable pub fetched : Bool → ℕ → Work Refusal Decoded

@@ -22,7 +22,8 @@ TakenJoin =
 
 -- what is counted of them is a sum, and the digest of the first goes on with the others
 abbrev pub CountsJoin : Type 0
-CountsJoin = (sites : List Site) (reports later : List Report) → direct_count sites (reports ++ later) ≡ direct_count sites reports + direct_count sites later
+CountsJoin = (sites : List Site) (reports later : List Report) → direct_count sites (reports ++ later) ≡ direct_count sites reports
+    + direct_count sites later
 
 abbrev pub DigestsJoin : Type 0
 DigestsJoin =
@@ -36,7 +37,8 @@ pub record AreOf (taken : List Taken) (sets : List Set) (reports : List Report) 
 
 abbrev pub StepsAreTaken : Type 0
 StepsAreTaken =
-    (m : Setting) (old new : State) (sets : List Set) (reports : List Report) → Steps m old sets reports new → AreOf (steps_by m old sets) sets reports
+    (m : Setting) (old new : State) (sets : List Set) (reports : List Report) → Steps m old sets reports new
+    → AreOf (steps_by m old sets) sets reports
 
 -- with one step more, which goes or stops, and of which the rule holds, the rule holds of all
 abbrev pub KeptOn : Type 0

@@ -56,14 +56,16 @@ tables_in steps = flat_map (λ (t : Taken). t.report.tables) steps
 
 -- The step before the state now loaded CR3 with c. The last step that loaded CR3 while CR3 was c is `left`, after `old` and
 -- before `since`, and these things hold.
-pub record Returns (m : Setting) (earlier : List Taken) (now : State) (c : ℕ) (old : List Taken) (left : Taken) (since : List Taken) : Type 0 where
+pub record Returns (m : Setting) (earlier : List Taken) (now : State) (c : ℕ) (old : List Taken) (left : Taken)
+    (since : List Taken) : Type 0 where
   pub split : earlier ≡ old ++ left ∷ since
   pub is_left : leaves c left ≡ true
   pub is_last : All (λ t. leaves c t ≡ false) since
   -- at most seven other values were loaded from that step on
   pub few : distinct_count eqb (filter (λ value. not (value == c)) (roots_in (left ∷ since))) ≤ 7
   -- no step after it clashes
-  pub apart : (front : List Taken) (t : Taken) (back : List Taken) → since ≡ front ++ t ∷ back → clashes m (old ++ left ∷ front) t.before ≡ false
+  pub apart : (front : List Taken) (t : Taken) (back : List Taken) → since ≡ front ++ t ∷ back
+      → clashes m (old ++ left ∷ front) t.before ≡ false
   -- CR0 and CR4 have not changed since
   pub same : All (λ (t : Taken). (t.before.cpu.cr0 ≡ left.before.cpu.cr0) × (t.before.cpu.cr4 ≡ left.before.cpu.cr4)) since
   pub same_now : (now.cpu.cr0 ≡ left.before.cpu.cr0) × (now.cpu.cr4 ≡ left.before.cpu.cr4)
@@ -80,7 +82,8 @@ HasEntriesOf left set =
 -- step doesn't clash either
 abbrev pub Reloads : (clashing : Bool) → Setting → List Taken → Taken → State → Set → Type 0
 Reloads clashing m earlier last now set =
-    (old : List Taken) (left : Taken) (since : List Taken) → Returns m earlier now last.after.cpu.cr3 old left since → clashing ≡ false → HasEntriesOf left set
+    (old : List Taken) (left : Taken) (since : List Taken) → Returns m earlier now last.after.cpu.cr3 old left since → clashing ≡ false
+    → HasEntriesOf left set
 
 -- otherwise: what the step before left, or nothing where the next step clashes or the step before changed CR0.WP
 abbrev pub Stays : (clashing : Bool) → Taken → State → Set → Type 0
@@ -101,7 +104,8 @@ IsKept m earlier now set = KeptBehind (clashes m earlier now) m earlier (reverse
 -- So of each of these sets, which are those of steps one after the other, up to which the run is roomy. The step of a set
 -- is made from the state to which the sets before it lead. The last of them may stop.
 pub record Kept (m : Setting) (old : State) (sets : List Set) : Type 0 where
-  pub each : (front : List Set) (set : Set) (back : List Set) (reports : List Report) (now : State) → sets ≡ front ++ set ∷ back → Steps m old front reports now
+  pub each : (front : List Set) (set : Set) (back : List Set) (reports : List Report) (now : State) → sets ≡ front ++ set ∷ back
+      → Steps m old front reports now
       → Roomy (steps_by m old front) → IsKept m (steps_by m old front) now set
 
 -- What a run keeps after these steps, before it is known whether the next one clashes: what is said where that doesn't.

@@ -32,7 +32,8 @@ set_told notes step left = if list_any (is_emptied step) notes then empty else w
 
 -- the sets of a run are those that its notes report
 pub record AreTold (m : Setting) (old : State) (sets : List Set) (notes : List Note) : Type 0 where
-  pub each : (earlier : List Taken) (now : Taken) (later : List Taken) → steps_by m old sets ≡ earlier ++ now ∷ later → now.set ≡ set_told notes now.before.step now.before.set
+  pub each : (earlier : List Taken) (now : Taken) (later : List Taken) → steps_by m old sets ≡ earlier ++ now ∷ later
+      → now.set ≡ set_told notes now.before.step now.before.set
 
 -- steps that don't fall
 abbrev pub is_ordered : ℕ → List Note → Bool

@@ -74,10 +74,12 @@ pub record Follows (s t : Space) : Type 0 where
   pub wrote : (frame : ℕ) → Contains s.wrote frame → Contains t.wrote frame
   pub tables : (frame : ℕ) → Contains s.tables frame → Contains t.tables frame
   pub pages : (page : ℕ) → Contains s.visited page → Contains t.visited page
-  pub others : ArePages t.visited → (at : ℕ) → at < length s.ram → (Contains t.wrote (at / 4096) → ⊥) → (Contains t.tables (at / 4096) → ⊥) → byte t.ram at ≡ byte s.ram at
+  pub others : ArePages t.visited → (at : ℕ) → at < length s.ram → (Contains t.wrote (at / 4096) → ⊥) → (Contains t.tables (at / 4096) → ⊥)
+      → byte t.ram at ≡ byte s.ram at
   -- those that were read since are frames that there are
   pub low : (frame : ℕ) → Contains t.tables frame → Contains s.tables frame ⊎ (frame < s.frames)
-  pub each : 4096 * s.frames ≤ length s.ram → AreApart t.tables t.wrote → (tables : ℕ → Bool) → HoldsOf tables t.tables → (page : ℕ) → page < 2 ^ 20
+  pub each : 4096 * s.frames ≤ length s.ram → AreApart t.tables t.wrote → (tables : ℕ → Bool) → HoldsOf tables t.tables
+      → (page : ℕ) → page < 2 ^ 20
       → ForSome (get t.set page) (λ e. (get s.set page ≡ Some e) ⊎ IsFoundBy t.ram t.frames t.cr3 t.pse tables page e)
 
 -- memory follows itself, and goes on following
@@ -91,7 +93,8 @@ FollowsOn = (s t u : Space) → Follows s t → Follows t u → Follows s u
 -- them is found still, whatever value of CR3 it begins from.
 abbrev pub FoundOver : Type 0
 FoundOver =
-    (s t : Space) (cr3 : ℕ) (pse : Bool) (tables : ℕ → Bool) (page : ℕ) (e : Entry) → Follows s t → 4096 * s.frames ≤ length s.ram → AreNone tables t.wrote → page < 2 ^ 20
+    (s t : Space) (cr3 : ℕ) (pse : Bool) (tables : ℕ → Bool) (page : ℕ) (e : Entry) → Follows s t → 4096 * s.frames ≤ length s.ram
+    → AreNone tables t.wrote → page < 2 ^ 20
     → IsFoundBy s.ram s.frames cr3 pse tables page e → IsFoundBy t.ram s.frames cr3 pse tables page e
 
 -- a walk finds each translation of the set by words in frames of which the test holds

@@ -14,5 +14,6 @@ StepsKeepFit =
 -- and so do steps one after another
 abbrev pub RunsKeepFit : Type 0
 RunsKeepFit =
-    (m : Setting) (old new : State) (sets : List Set) (reports : List Report) → Steps m old sets reports new → Fit old.cpu → length old.cpu.seg ≡ 4
+    (m : Setting) (old new : State) (sets : List Set) (reports : List Report) → Steps m old sets reports new → Fit old.cpu
+    → length old.cpu.seg ≡ 4
     → Fit new.cpu × (length new.cpu.seg ≡ 4)

@@ -124,8 +124,10 @@ ended m completed b cpu s = if may_leave m.mode b.cpu cpu then concluded [] (Som
 abbrev pub after_effect : Setting → State → Completed → SysEffect → Cpu → Space → Result
 after_effect m b completed effects.Next cpu s = ended m completed b cpu s
 after_effect m b completed effects.Halted cpu s = concluded [] (Some completed) b cpu b.board s
-after_effect m b completed (effects.DropPage page) cpu s = concluded [] (Some completed) b cpu b.board (record s { set = remove s.set page })
-after_effect m b completed (effects.DropDir index) cpu s = concluded [] (Some completed) b cpu b.board (record s { set = without_dir s.set index })
+after_effect m b completed (effects.DropPage page) cpu s =
+    concluded [] (Some completed) b cpu b.board (record s { set = remove s.set page })
+after_effect m b completed (effects.DropDir index) cpu s =
+    concluded [] (Some completed) b cpu b.board (record s { set = without_dir s.set index })
 after_effect m b completed effects.DropAll cpu s = concluded [] (Some completed) b cpu b.board (record s { set = empty })
 after_effect m b completed (effects.PortIn port wide) cpu s = after_read b completed cpu port wide s (port_read b.board port wide)
 after_effect m b completed (effects.PortOut port wide value) cpu s =

@@ -69,7 +69,8 @@ abbrev pub InstructedUses : Type 0
 InstructedUses = (insn : Insn) (len : ℕ) (cpu : Cpu) (s : Space) → Uses_on (cpu.cpl == 3) s (instructed insn len cpu s)
 
 abbrev pub DeliveredUses : Type 0
-DeliveredUses = (user : Bool) (cpu : Cpu) (vector : ℕ) (kind : Kind) (code : Option ℕ) (s : Space) → Delivers user s (delivered cpu vector kind code s)
+DeliveredUses =
+    (user : Bool) (cpu : Cpu) (vector : ℕ) (kind : Kind) (code : Option ℕ) (s : Space) → Delivers user s (delivered cpu vector kind code s)
 
 -- What a step that went left: memory after the last of its accesses, from whose translations the instruction itself may
 -- have dropped some.
@@ -88,5 +89,6 @@ StepsUse =
 -- So each page that a step used, and that has a translation after it, leads where it may.
 abbrev pub UsedPagesLeadWell : Type 0
 UsedPagesLeadWell =
-    (m : Setting) (b : State) (set : Set) (report : Report) (after : State) → step_of m b set ≡ Went report after → (page : ℕ) → Contains report.pages page
+    (m : Setting) (b : State) (set : Set) (report : Report) (after : State) → step_of m b set ≡ Went report after → (page : ℕ)
+    → Contains report.pages page
     → ForSome (get after.set page) (λ e. may_use m.mode (b.cpu.cpl == 3) page e.frame ≡ true)

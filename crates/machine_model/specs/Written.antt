@@ -17,6 +17,7 @@ WritesAreNoted =
 
 abbrev pub WalksAreNoted : Type 0
 WalksAreNoted =
-    (ram : List ℕ) (frames cr3 : ℕ) (pse : Bool) (page dir_at word_at : ℕ) (entry : Entry) → page < 2 ^ 20 → fresh ram frames cr3 pse page ≡ Found entry dir_at word_at
+    (ram : List ℕ) (frames cr3 : ℕ) (pse : Bool) (page dir_at word_at : ℕ) (entry : Entry) → page < 2 ^ 20
+    → fresh ram frames cr3 pse page ≡ Found entry dir_at word_at
     → (tables_read ram frames cr3 pse page ≡ dir_at / 4096 ∷ word_at / 4096 ∷ [])
     ⊎ ((word_at ≡ dir_at) × (tables_read ram frames cr3 pse page ≡ dir_at / 4096 ∷ []))

@@ -20,11 +20,13 @@ by_outcome : (m : Setting) (b : State) (c : Completed) (insn : Insn) (len : ℕ)
 by_outcome m b c insn len (Ok done) = refl
 by_outcome m b c insn len (Err refused) = refl
 
-as_plain : (insn : Insn) (len : ℕ) (b : State) (s : Space) → is_plain insn.op ≡ true → instructed insn len b.cpu s ≡ done_plainly (executed insn len b.cpu s)
+as_plain : (insn : Insn) (len : ℕ) (b : State) (s : Space) → is_plain insn.op ≡ true
+    → instructed insn len b.cpu s ≡ done_plainly (executed insn len b.cpu s)
 unfolding instructed
 as_plain insn len b s e = ap (λ (t : Bool). cond t (done_plainly (executed insn len b.cpu s)) (sys_work insn len b.cpu s)) e
 
-as_divided : (insn : Insn) (len : ℕ) (b : State) (s : Space) → executed insn len b.cpu s ≡ on_value (both_reached b.cpu (ranges_of insn b.cpu.regs) s) (λ _. completed insn len b.cpu)
+as_divided : (insn : Insn) (len : ℕ) (b : State) (s : Space)
+    → executed insn len b.cpu s ≡ on_value (both_reached b.cpu (ranges_of insn b.cpu.regs) s) (λ _. completed insn len b.cpu)
 unfolding divided
 as_divided insn len b s = executed_divides insn len b.cpu s
 

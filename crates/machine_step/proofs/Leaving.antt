@@ -6,7 +6,8 @@ use Rattle.machine_model.specs.State.{Setting}
 use Rattle.machine_model.specs.Rules.{stands_well}
 use Rattle.machine_step.specs.Left.{left_by_next, left_there, left_at_work}
 
-pub leaves_on : (m : Setting) (cpu : Cpu) (s : Space) → cpu.halted ≡ false → stands_well m cpu ≡ true → left_at_work m cpu s ≡ left_by_next cpu s
+pub leaves_on : (m : Setting) (cpu : Cpu) (s : Space) → cpu.halted ≡ false → stands_well m cpu ≡ true
+    → left_at_work m cpu s ≡ left_by_next cpu s
 unfolding left_at_work
 leaves_on m cpu s awake well =
     ap (λ (t : Bool). cond t s (left_there m cpu s)) awake

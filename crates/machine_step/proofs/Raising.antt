@@ -6,7 +6,8 @@ use Rattle.machine_model.specs.State.{Setting}
 use Rattle.machine_model.specs.Rules.{stands_well}
 use Rattle.machine_step.specs.Raised.{raised_by_next, raised_there, raised_at_work}
 
-pub raises_on : (m : Setting) (cpu : Cpu) (s : Space) → cpu.halted ≡ false → stands_well m cpu ≡ true → raised_at_work m cpu s ≡ raised_by_next cpu s
+pub raises_on : (m : Setting) (cpu : Cpu) (s : Space) → cpu.halted ≡ false → stands_well m cpu ≡ true
+    → raised_at_work m cpu s ≡ raised_by_next cpu s
 unfolding raised_at_work
 raises_on m cpu s awake well =
     ap (λ (t : Bool). cond t None (raised_there m cpu s)) awake

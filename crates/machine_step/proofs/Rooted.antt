@@ -60,7 +60,8 @@ if_ok_as P Q (Err e) f h = tt
 -- ---- a step that went
 
 -- no load of CR3 completed, the registers are kept, and not all is dropped
-pub plain_roots : (before : Cpu) (w : Worked) → is_load (completed_by w.completed) ≡ false → KeepsRoots before w.cpu → is_all w.dropped ≡ false → RootsAs before w
+pub plain_roots : (before : Cpu) (w : Worked) → is_load (completed_by w.completed) ≡ false → KeepsRoots before w.cpu
+    → is_all w.dropped ≡ false → RootsAs before w
 plain_roots before w none k some = record {
   through = λ e. k.cr3;
   load = λ e. absurd (both_ways (is_load (completed_by w.completed)) none e);
@@ -68,14 +69,16 @@ plain_roots before w none k some = record {
   page_size = λ ne. absurd (ne (ap (λ (x : ℕ). has x 0x10) k.cr4));
 }
 
-pub kept_roots : (completed : Option Completed) (before : Cpu) (w : Worked) → is_load (completed_by completed) ≡ false → EndsWith completed before w → RootsAs before w
+pub kept_roots : (completed : Option Completed) (before : Cpu) (w : Worked) → is_load (completed_by completed) ≡ false
+    → EndsWith completed before w → RootsAs before w
 kept_roots completed before w none h =
     plain_roots before w (ap (λ (c : Option Completed). is_load (completed_by c)) h.completed_is ∙ none) h.roots (ap is_all h.dropped_is)
 
 pub same_roots : (cpu : Cpu) → KeepsRoots cpu cpu
 same_roots cpu = record { cr0 = refl; cr3 = refl; cr4 = refl }
 
-pub ends_on : (completed : Option Completed) (before after : Cpu) (w : Worked) → KeepsRoots before after → EndsWith completed after w → EndsWith completed before w
+pub ends_on : (completed : Option Completed) (before after : Cpu) (w : Worked) → KeepsRoots before after → EndsWith completed after w
+    → EndsWith completed before w
 ends_on completed before after w k h = record {
   completed_is = h.completed_is;
   dropped_is = h.dropped_is;
@@ -83,9 +86,12 @@ ends_on completed before after w k h = record {
 }
 
 -- what an instruction did, and then a step that goes on with it
-pub ended_roots : (completed : Completed) (before after : Cpu) (w : Worked) → RootsAs before (record { seen = seen.Nothing; completed = Some completed; cpu = after; dropped = drops.Nothing; raised = None }) → EndsWith (Some completed) after w → RootsAs before w
+pub ended_roots : (completed : Completed) (before after : Cpu) (w : Worked)
+    → RootsAs before (record { seen = seen.Nothing; completed = Some completed; cpu = after; dropped = drops.Nothing; raised = None })
+    → EndsWith (Some completed) after w → RootsAs before w
 ended_roots completed before after w h k =
-    let is : is_load (completed_by w.completed) ≡ is_load (Some (completed_of completed)) = ap (λ (c : Option Completed). is_load (completed_by c)) k.completed_is in
+    let is : is_load (completed_by w.completed) ≡ is_load (Some (completed_of completed)) =
+    ap (λ (c : Option Completed). is_load (completed_by c)) k.completed_is in
     record {
       through = λ e. k.roots.cr3 ∙ h.through (sym is ∙ e);
       load = λ e. absurd (both_ways false refl (h.load (sym is ∙ e)).0);
@@ -103,11 +109,14 @@ delivery_keeps : (cpu : Cpu) (vector : ℕ) (kind : Kind) (code : Option ℕ) �
 unfolding delivered
 delivery_keeps cpu vector kind code =
     any_yields (entry_of cpu vector kind) (λ entry. any_yields (code_marking cpu entry.sel) (λ marking. any_yields (stack_of cpu) (λ stack.
-    any_yields (push_frame cpu stack code) (λ top. any_yields (mark denials cpu entry.sel marking) (λ one. any_yields (mark denials cpu stack.sel stack.marking) (λ two.
+    any_yields (push_frame cpu stack code)
+    (λ top. any_yields (mark denials cpu entry.sel marking) (λ one. any_yields (mark denials cpu stack.sel stack.marking) (λ two.
     gives_yields {x = entered cpu entry stack top} (record { cr0 = refl; cr3 = refl; cr4 = refl })))))))
 
-pub entered_keeps : (cpu after : Cpu) (vector : ℕ) (kind : Kind) (code : Option ℕ) (s t : Space) → delivered cpu vector kind code s ≡ Ok (after, t) → KeepsRoots cpu after
-entered_keeps cpu after vector kind code s t e = subst (λ (o : Outcome NotDelivered Cpu). Ends (KeepsRoots cpu) o) e ((delivery_keeps cpu vector kind code).each s)
+pub entered_keeps : (cpu after : Cpu) (vector : ℕ) (kind : Kind) (code : Option ℕ) (s t : Space)
+    → delivered cpu vector kind code s ≡ Ok (after, t) → KeepsRoots cpu after
+entered_keeps cpu after vector kind code s t e =
+    subst (λ (o : Outcome NotDelivered Cpu). Ends (KeepsRoots cpu) o) e ((delivery_keeps cpu vector kind code).each s)
 
 -- ---- plain instructions
 
@@ -117,7 +126,8 @@ module _ (cpu : Cpu) where
   of_finished s (outcomes.Raise vector code) = tt
   of_finished s (outcomes.Stop stop) = tt
 
-  of_writes : (insn : Insn) (len : ℕ) (before : Space) (o : Outcome Refusal (Unit {0})) → Ends (KeepsRoots cpu) (after_writes insn len cpu before o)
+  of_writes : (insn : Insn) (len : ℕ) (before : Space) (o : Outcome Refusal (Unit {0}))
+      → Ends (KeepsRoots cpu) (after_writes insn len cpu before o)
   of_writes insn len before (Ok done) = of_finished done.1 (effect insn len cpu.regs (byte_by (ranges_of insn cpu.regs).read before done.1))
   of_writes insn len before (Err refused) = tt
 
@@ -128,7 +138,8 @@ module _ (cpu : Cpu) where
   of_plain : (insn : Insn) (len : ℕ) → Yields (KeepsRoots cpu) (executed insn len cpu)
   unfolding executed
   of_plain insn len =
-      any_yields (unless (refusals.Raise 13 0) (not (is_refused cpu (ranges_of insn cpu.regs)))) (λ done. record { each = λ s. of_reads insn len (reached cpu false (ranges_of insn cpu.regs).read s) })
+      any_yields (unless (refusals.Raise 13 0) (not (is_refused cpu (ranges_of insn cpu.regs))))
+      (λ done. record { each = λ s. of_reads insn len (reached cpu false (ranges_of insn cpu.regs).read s) })
 
 -- ---- each instruction
 
@@ -149,14 +160,18 @@ module _ (completed : Completed) (cpu : Cpu) where
   abbrev IsLeft : SysOutcome → Type 0
   IsLeft d = EffectRoots completed cpu d.effect d.cpu
 
-  stays_left : (e : SysEffect) (new : Cpu) → load ≡ false → KeepsRoots cpu new → is_all (dropped_by e) ≡ false → EffectRoots completed cpu e new
+  stays_left : (e : SysEffect) (new : Cpu) → load ≡ false → KeepsRoots cpu new → is_all (dropped_by e) ≡ false
+      → EffectRoots completed cpu e new
   stays_left (effects.Raise vector code) new none k some = k
   stays_left (effects.Stop stop) new none k some = tt
-  stays_left e new none k some = plain_roots cpu (record { seen = seen.Nothing; completed = Some completed; cpu = new; dropped = dropped_by e; raised = None }) none k some
+  stays_left e new none k some =
+      plain_roots cpu (record { seen = seen.Nothing; completed = Some completed; cpu = new; dropped = dropped_by e; raised = None }) none k
+      some
 
   -- ---- MOV to a control register
 
-  of_0 : (new : Cpu) → load ≡ false → new.cr3 ≡ cpu.cr3 → new.cr4 ≡ cpu.cr4 → RootsAs cpu (record { seen = seen.Nothing; completed = Some completed; cpu = new; dropped = drops.Nothing; raised = None })
+  of_0 : (new : Cpu) → load ≡ false → new.cr3 ≡ cpu.cr3 → new.cr4 ≡ cpu.cr4
+      → RootsAs cpu (record { seen = seen.Nothing; completed = Some completed; cpu = new; dropped = drops.Nothing; raised = None })
   of_0 new none k h = record {
     through = λ e. k;
     load = λ e. absurd (both_ways load none e);
@@ -164,7 +179,8 @@ module _ (completed : Completed) (cpu : Cpu) where
     page_size = λ ne. absurd (ne (ap (λ (x : ℕ). has x 0x10) h));
   }
 
-  of_3 : (new : Cpu) → load ≡ true → new.cr0 ≡ cpu.cr0 → new.cr4 ≡ cpu.cr4 → RootsAs cpu (record { seen = seen.Nothing; completed = Some completed; cpu = new; dropped = drops.All; raised = None })
+  of_3 : (new : Cpu) → load ≡ true → new.cr0 ≡ cpu.cr0 → new.cr4 ≡ cpu.cr4
+      → RootsAs cpu (record { seen = seen.Nothing; completed = Some completed; cpu = new; dropped = drops.All; raised = None })
   of_3 new is a b = record {
     through = λ e. absurd (both_ways load e is);
     load = λ e. (refl, a, b);
@@ -172,12 +188,14 @@ module _ (completed : Completed) (cpu : Cpu) where
     page_size = λ ne. refl;
   }
 
-  of_4 : (new : Cpu) (test : Bool) → changes_pse cpu new.cr4 ≡ test → load ≡ false → new.cr3 ≡ cpu.cr3 → EffectRoots completed cpu (cond test effects.DropAll effects.Next) new
+  of_4 : (new : Cpu) (test : Bool) → changes_pse cpu new.cr4 ≡ test → load ≡ false → new.cr3 ≡ cpu.cr3
+      → EffectRoots completed cpu (cond test effects.DropAll effects.Next) new
   of_4 new true t none k = record {
     through = λ e. k;
     load = λ e. absurd (both_ways load none e);
     all = λ e l same.
-        both_ways (new.cr4 / 0x10 % 2 == cpu.cr4 / 0x10 % 2) (not-true (new.cr4 / 0x10 % 2 == cpu.cr4 / 0x10 % 2) t) (same_bits (new.cr4 / 0x10 % 2) (cpu.cr4 / 0x10 % 2) (omega arith) (omega arith) same);
+        both_ways (new.cr4 / 0x10 % 2 == cpu.cr4 / 0x10 % 2) (not-true (new.cr4 / 0x10 % 2 == cpu.cr4 / 0x10 % 2) t)
+        (same_bits (new.cr4 / 0x10 % 2) (cpu.cr4 / 0x10 % 2) (omega arith) (omega arith) same);
     page_size = λ ne. refl;
   }
   of_4 new false t none k = record {
@@ -194,15 +212,19 @@ module _ (completed : Completed) (cpu : Cpu) where
   none_dropped e h = refl
 
   row_roots : (d : SysOutcome) → Left cpu load d → IsLeft d
-  row_roots d (Left.beside none new e some h) = stays_left e new none (record { cr0 = h.cr0; cr3 = h.cr3; cr4 = h.cr4 }) (none_dropped e some)
+  row_roots d (Left.beside none new e some h) =
+      stays_left e new none (record { cr0 = h.cr0; cr3 = h.cr3; cr4 = h.cr4 }) (none_dropped e some)
   row_roots d (Left.interrupts none new b w h) = stays_left effects.Next new none (record { cr0 = h.cr0; cr3 = h.cr3; cr4 = h.cr4 }) refl
-  row_roots d (Left.popped_flags none new image h) = stays_left effects.Next new none (record { cr0 = h.cr0; cr3 = h.cr3; cr4 = h.cr4 }) refl
+  row_roots d (Left.popped_flags none new image h) =
+      stays_left effects.Next new none (record { cr0 = h.cr0; cr3 = h.cr3; cr4 = h.cr4 }) refl
   row_roots d (Left.halts none len t) = stays_left effects.Halted d.cpu none (record { cr0 = refl; cr3 = refl; cr4 = refl }) refl
   row_roots d (Left.stack none after h w k) = stays_left effects.Next d.cpu none (record { cr0 = w.cr0; cr3 = w.cr3; cr4 = w.cr4 }) refl
-  row_roots d (Left.of_data none after place h w one two k) = stays_left effects.Next d.cpu none (record { cr0 = w.cr0; cr3 = w.cr3; cr4 = w.cr4 }) refl
+  row_roots d (Left.of_data none after place h w one two k) =
+      stays_left effects.Next d.cpu none (record { cr0 = w.cr0; cr3 = w.cr3; cr4 = w.cr4 }) refl
   row_roots d (Left.code none eip h k) = stays_left effects.Next d.cpu none (record { cr0 = refl; cr3 = refl; cr4 = refl }) refl
   row_roots d (Left.same_level none p l h inward) = stays_left effects.Next d.cpu none (record { cr0 = refl; cr3 = refl; cr4 = refl }) refl
-  row_roots d (Left.outer_level none p top l s h k) = stays_left effects.Next d.cpu none (record { cr0 = refl; cr3 = refl; cr4 = refl }) refl
+  row_roots d (Left.outer_level none p top l s h k) =
+      stays_left effects.Next d.cpu none (record { cr0 = refl; cr3 = refl; cr4 = refl }) refl
   row_roots d (Left.control_0 none len v t) = of_0 d.cpu none refl refl
   row_roots d (Left.control_3 is len v t) = of_3 d.cpu is refl refl
   row_roots d (Left.control_4 none len v t) = of_4 (record (past cpu len) { cr4 = v }) (changes_pse (past cpu len) v) refl none refl
@@ -228,17 +250,21 @@ module _ (completed : Completed) (cpu : Cpu) where
   left insn len s is =
       let e : load ≡ (is_write insn.op && is_control_3 insn.a) = ap (λ (i : Insn). is_write i.op && is_control_3 i.a) is in
       choice (is_plain insn.op) (done_plainly (executed insn len cpu s)) (sys_work insn len cpu s)
-      (λ plain. plainly_left (executed insn len cpu s) (e ∙ ap (λ (b : Bool). b && is_control_3 insn.a) (not_write insn.op plain)) ((of_plain cpu insn len).each s))
+      (λ plain. plainly_left (executed insn len cpu s) (e ∙ ap (λ (b : Bool). b && is_control_3 insn.a) (not_write insn.op plain))
+      ((of_plain cpu insn len).each s))
       (ends_left (sys_work insn len cpu s) ((sys_left cpu load insn len e).each s))
 
   -- ---- what is recorded of it
 
-  refusal_roots : (r : Refusal) (s t : Space) (e : SysEffect) (after : Cpu) → told cpu (Err (r, s)) ≡ (e, after, t) → EffectRoots completed cpu e after
+  refusal_roots : (r : Refusal) (s t : Space) (e : SysEffect) (after : Cpu) → told cpu (Err (r, s)) ≡ (e, after, t)
+      → EffectRoots completed cpu e after
   refusal_roots (refusals.Fault code at) s t e after g =
       subst (λ (p : SysEffect × Cpu × Space). EffectRoots completed cpu p.0 p.1) g (record { cr0 = refl; cr3 = refl; cr4 = refl })
-  refusal_roots (refusals.Raise vector code) s t e after g = subst (λ (p : SysEffect × Cpu × Space). EffectRoots completed cpu p.0 p.1) g (same_roots cpu)
+  refusal_roots (refusals.Raise vector code) s t e after g =
+      subst (λ (p : SysEffect × Cpu × Space). EffectRoots completed cpu p.0 p.1) g (same_roots cpu)
   refusal_roots (refusals.Stop stop) s t e after g = subst (λ (p : SysEffect × Cpu × Space). EffectRoots completed cpu p.0 p.1) g tt
 
-  pub told_roots : (o : Outcome Refusal SysOutcome) (e : SysEffect) (after : Cpu) (t : Space) → told cpu o ≡ (e, after, t) → Ends IsLeft o → EffectRoots completed cpu e after
+  pub told_roots : (o : Outcome Refusal SysOutcome) (e : SysEffect) (after : Cpu) (t : Space) → told cpu o ≡ (e, after, t) → Ends IsLeft o
+      → EffectRoots completed cpu e after
   told_roots (Ok done) e after t g h = subst (λ (p : SysEffect × Cpu × Space). EffectRoots completed cpu p.0 p.1) g h
   told_roots (Err refused) e after t g h = refusal_roots refused.0 refused.1 t e after g

@@ -19,6 +19,7 @@ pub leaves_freely : (mode : Mode) (cpu after : Cpu) → has_rules mode ≡ false
 leaves_freely Bare cpu after h = refl
 leaves_freely (Wedge text count own) cpu after h = absurd cc
 
-pub leaves_open : (mode : Mode) (cpu after : Cpu) → has_rules mode ≡ true → may_leave mode cpu after ≡ (not (cpu.cpl == 0 && after.cpl == 3) || is_open after)
+pub leaves_open : (mode : Mode) (cpu after : Cpu) → has_rules mode ≡ true
+    → may_leave mode cpu after ≡ (not (cpu.cpl == 0 && after.cpl == 3) || is_open after)
 leaves_open Bare cpu after h = absurd cc
 leaves_open (Wedge text count own) cpu after h = refl

@@ -29,7 +29,8 @@ pub on_err : {T E P : Type 0} (r : Result T E) → P → OnErr r P
 on_err (Ok x) p = tt
 on_err (Err e) p = p
 
-pub if_ok_on : {T E : Type 0} (user : Bool) (s t u : Space) (r : Result T E) → Uses user s t → IfOk r (λ _. Uses user t u) → IfOk r (λ _. Uses user s u)
+pub if_ok_on : {T E : Type 0} (user : Bool) (s t u : Space) (r : Result T E) → Uses user s t → IfOk r (λ _. Uses user t u)
+    → IfOk r (λ _. Uses user s u)
 if_ok_on user s t u (Ok x) h k = uses_on user s t u h k
 if_ok_on user s t u (Err e) h k = tt
 
@@ -38,24 +39,31 @@ if_ok_on user s t u (Err e) h k = tt
 pub given_uses : {A : Type 0} (user : Bool) (s t : Space) (o : Outcome Refusal A) (x : A) → o ≡ Ok (x, t) → Uses_on user s o → Uses user s t
 given_uses {A} user s t o x e h = subst (λ (p : Outcome Refusal A). Uses_on user s p) e h
 
-pub refused_uses : {A : Type 0} (user : Bool) (s t : Space) (o : Outcome Refusal A) (r : Refusal) → o ≡ Err (r, t) → Uses_on user s o → AtRefusal user s r t
+pub refused_uses : {A : Type 0} (user : Bool) (s t : Space) (o : Outcome Refusal A) (r : Refusal) → o ≡ Err (r, t) → Uses_on user s o
+    → AtRefusal user s r t
 refused_uses {A} user s t o r e h = subst (λ (p : Outcome Refusal A). Uses_on user s p) e h
 
-pub gives_uses : {A : Type 0} (user : Bool) (s t : Space) (r : Result A Refusal) (o : Outcome Refusal A) → Gives r t o → Uses_on user s o → IfOk r (λ _. Uses user s t)
+pub gives_uses : {A : Type 0} (user : Bool) (s t : Space) (r : Result A Refusal) (o : Outcome Refusal A) → Gives r t o → Uses_on user s o
+    → IfOk r (λ _. Uses user s t)
 gives_uses user s t (Ok x) o e h = given_uses user s t o x e h
 gives_uses user s t (Err r) o e h = tt
 
-pub refuses_uses : {A : Type 0} (user : Bool) (s t : Space) (r : Result A Refusal) (o : Outcome Refusal A) → Gives r t o → Uses_on user s o → IfErr r (λ e. AtRefusal user s e t)
+pub refuses_uses : {A : Type 0} (user : Bool) (s t : Space) (r : Result A Refusal) (o : Outcome Refusal A) → Gives r t o → Uses_on user s o
+    → IfErr r (λ e. AtRefusal user s e t)
 refuses_uses user s t (Ok x) o e h = tt
 refuses_uses user s t (Err r) o e h = refused_uses user s t o r e h
 
 -- ---- a delivery, at either level
 
-pub entered_uses : DeliveredUses → (user : Bool) (cpu after : Cpu) (vector : ℕ) (kind : Kind) (code : Option ℕ) (s t : Space) → delivered cpu vector kind code s ≡ Ok (after, t) → Uses user s t
-entered_uses law user cpu after vector kind code s t e = subst (λ (o : Outcome NotDelivered Cpu). Delivers user s o) e (law user cpu vector kind code s)
+pub entered_uses : DeliveredUses → (user : Bool) (cpu after : Cpu) (vector : ℕ) (kind : Kind) (code : Option ℕ) (s t : Space)
+    → delivered cpu vector kind code s ≡ Ok (after, t) → Uses user s t
+entered_uses law user cpu after vector kind code s t e =
+    subst (λ (o : Outcome NotDelivered Cpu). Delivers user s o) e (law user cpu vector kind code s)
 
-pub denied_uses : DeliveredUses → (user : Bool) (cpu : Cpu) (vector : ℕ) (kind : Kind) (code : Option ℕ) (s t : Space) → delivered cpu vector kind code s ≡ Err (not_delivered.Privilege, t) → Uses user s t
-denied_uses law user cpu vector kind code s t e = subst (λ (o : Outcome NotDelivered Cpu). Delivers user s o) e (law user cpu vector kind code s)
+pub denied_uses : DeliveredUses → (user : Bool) (cpu : Cpu) (vector : ℕ) (kind : Kind) (code : Option ℕ) (s t : Space)
+    → delivered cpu vector kind code s ≡ Err (not_delivered.Privilege, t) → Uses user s t
+denied_uses law user cpu vector kind code s t e =
+    subst (λ (o : Outcome NotDelivered Cpu). Delivers user s o) e (law user cpu vector kind code s)
 
 -- ---- an instruction's effect
 
@@ -63,11 +71,16 @@ effect_uses : (user : Bool) (s t : Space) (e : SysEffect) → Uses user s t → 
 effect_uses user s t (effects.Stop stop) h = tt
 effect_uses user s t e h = h
 
-refusal_told : (user : Bool) (cpu : Cpu) (s t u : Space) (r : Refusal) (e : SysEffect) (after : Cpu) → told cpu (Err (r, u)) ≡ (e, after, t) → AtRefusal user s r u → AtEffect user s e t
-refusal_told user cpu s t u (refusal.Fault code at) e after g h = effect_uses user s t e (subst (Uses user s) (ap (λ (p : SysEffect × Cpu × Space). p.2) g) h)
-refusal_told user cpu s t u (refusal.Raise vector code) e after g h = effect_uses user s t e (subst (Uses user s) (ap (λ (p : SysEffect × Cpu × Space). p.2) g) h)
-refusal_told user cpu s t u (refusal.Stop stop) e after g h = subst (λ (x : SysEffect). AtEffect user s x t) (ap (λ (p : SysEffect × Cpu × Space). p.0) g) tt
+refusal_told : (user : Bool) (cpu : Cpu) (s t u : Space) (r : Refusal) (e : SysEffect) (after : Cpu) → told cpu (Err (r, u)) ≡ (e, after, t)
+    → AtRefusal user s r u → AtEffect user s e t
+refusal_told user cpu s t u (refusal.Fault code at) e after g h =
+    effect_uses user s t e (subst (Uses user s) (ap (λ (p : SysEffect × Cpu × Space). p.2) g) h)
+refusal_told user cpu s t u (refusal.Raise vector code) e after g h =
+    effect_uses user s t e (subst (Uses user s) (ap (λ (p : SysEffect × Cpu × Space). p.2) g) h)
+refusal_told user cpu s t u (refusal.Stop stop) e after g h =
+    subst (λ (x : SysEffect). AtEffect user s x t) (ap (λ (p : SysEffect × Cpu × Space). p.0) g) tt
 
-pub told_uses : (user : Bool) (cpu : Cpu) (s t : Space) (o : Outcome Refusal SysOutcome) (e : SysEffect) (after : Cpu) → told cpu o ≡ (e, after, t) → Uses_on user s o → AtEffect user s e t
+pub told_uses : (user : Bool) (cpu : Cpu) (s t : Space) (o : Outcome Refusal SysOutcome) (e : SysEffect) (after : Cpu)
+    → told cpu o ≡ (e, after, t) → Uses_on user s o → AtEffect user s e t
 told_uses user cpu s t (Ok done) e after g h = effect_uses user s t e (subst (Uses user s) (ap (λ (p : SysEffect × Cpu × Space). p.2) g) h)
 told_uses user cpu s t (Err refused) e after g h = refusal_told user cpu s t refused.1 refused.0 e after g h

@@ -15,4 +15,5 @@ plainly_on m b c insn len s = after_instruction m b c (done_plainly (completed i
 
 abbrev pub PlainDivides : Type 0
 PlainDivides = (m : Setting) (b : State) (c : Completed) (insn : Insn) (len : ℕ) (s : Space) → is_plain insn.op ≡ true
-    → after_instruction m b c (instructed insn len b.cpu s) ≡ after_reach m b c (both_reached b.cpu (ranges_of insn b.cpu.regs) s) (plainly_on m b c insn len)
+    → after_instruction m b c (instructed insn len b.cpu s) ≡ after_reach m b c (both_reached b.cpu (ranges_of insn b.cpu.regs) s)
+    (plainly_on m b c insn len)

@@ -57,7 +57,8 @@ IsDropped _ = Unit {0}
 -- the step went, and left this board and this memory
 abbrev pub went_as : State → Worked → Board → Space → steps.Result
 went_as b worked board s =
-    steps.concluded (whats worked.seen) (completed_by worked.completed) b worked.cpu board (record s { set = dropping worked.dropped s.set })
+    steps.concluded (whats worked.seen) (completed_by worked.completed) b worked.cpu board
+    (record s { set = dropping worked.dropped s.set })
 
 -- the outcome of a step from this state, by the definitions, is what was answered
 abbrev pub ComesTo : steps.Result → State → Result Worked Stop → Board → Space → Type 0

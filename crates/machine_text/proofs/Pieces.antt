@@ -22,9 +22,11 @@ pub no_bytes : (line : List ℕ) → line ≡ line ++ bytes_text []
 unfolding bytes_text
 no_bytes line = sym (append-nil line)
 
-pub more_bytes : (xs : List ℕ) (i : ℕ) → i < length xs → bytes_text (take (i + 1) xs) ≡ bytes_text (take i xs) ++ codes " " ++ hex2 (get_or xs i 0)
+pub more_bytes : (xs : List ℕ) (i : ℕ) → i < length xs → bytes_text (take (i + 1) xs) ≡ bytes_text (take i xs) ++ codes " "
+    ++ hex2 (get_or xs i 0)
 more_bytes xs i lt =
-    ap bytes_text (take_more xs i 0 lt) ∙ (one_byte (take i xs) (get_or xs i 0) ∙ sym (append_assoc (bytes_text (take i xs)) (codes " ") (hex2 (get_or xs i 0))))
+    ap bytes_text (take_more xs i 0 lt)
+    ∙ (one_byte (take i xs) (get_or xs i 0) ∙ sym (append_assoc (bytes_text (take i xs)) (codes " ") (hex2 (get_or xs i 0))))
 
 -- ---- pieces by their numbers
 
@@ -33,7 +35,8 @@ unfolding below
 none_below line piece = sym (append-nil line)
 
 -- one more
-pub one_more : (line : List ℕ) (piece : ℕ → List ℕ) (i : ℕ) (r1 r2 : List ℕ) → r1 ≡ line ++ below piece i → r2 ≡ r1 ++ piece i → r2 ≡ line ++ below piece (i + 1)
+pub one_more : (line : List ℕ) (piece : ℕ → List ℕ) (i : ℕ) (r1 r2 : List ℕ) → r1 ≡ line ++ below piece i → r2 ≡ r1 ++ piece i → r2 ≡ line
+    ++ below piece (i + 1)
 unfolding below
 one_more line piece i r1 r2 p q = rw add-one (two_pieces line (below piece i) (piece i) r1 r2 p q)
 
@@ -41,9 +44,11 @@ one_more line piece i r1 r2 p q = rw add-one (two_pieces line (below piece i) (p
 pub all_below : (line : List ℕ) (piece : ℕ → List ℕ) (i n : ℕ) (r : List ℕ) → r ≡ line ++ below piece i → i ≡ n → r ≡ line ++ below piece n
 all_below line piece i n r p same = p ∙ ap (λ (k : ℕ). line ++ below piece k) same
 
-pub four_pieces : (line a b c d r1 r2 r3 r4 : List ℕ) → r1 ≡ line ++ a → r2 ≡ r1 ++ b → r3 ≡ r2 ++ c → r4 ≡ r3 ++ d → r4 ≡ line ++ (a ++ b ++ c ++ d)
+pub four_pieces : (line a b c d r1 r2 r3 r4 : List ℕ) → r1 ≡ line ++ a → r2 ≡ r1 ++ b → r3 ≡ r2 ++ c → r4 ≡ r3 ++ d → r4 ≡ line
+    ++ (a ++ b ++ c ++ d)
 four_pieces line a b c d r1 r2 r3 r4 p q r s = two_pieces line (a ++ b ++ c) d r3 r4 (three_pieces line a b c r1 r2 r3 p q r) s
 
 pub five_pieces : (line a b c d e r1 r2 r3 r4 r5 : List ℕ) → r1 ≡ line ++ a → r2 ≡ r1 ++ b → r3 ≡ r2 ++ c → r4 ≡ r3 ++ d → r5 ≡ r4 ++ e
     → r5 ≡ line ++ (a ++ b ++ c ++ d ++ e)
-five_pieces line a b c d e r1 r2 r3 r4 r5 p q r s t = two_pieces line (a ++ b ++ c ++ d) e r4 r5 (four_pieces line a b c d r1 r2 r3 r4 p q r s) t
+five_pieces line a b c d e r1 r2 r3 r4 r5 p q r s t =
+    two_pieces line (a ++ b ++ c ++ d) e r4 r5 (four_pieces line a b c d r1 r2 r3 r4 p q r s) t

@@ -7,7 +7,8 @@ use Rattle.machine_text.specs.Numbers.{where_so}
 -- the frame's number, and whose the page is
 abbrev pub entry_text : Entry → List ℕ
 entry_text e =
-    codes "frame " ++ hex8 e.frame ++ where_so e.user (codes " user") ++ where_so e.write (codes " write") ++ where_so e.dirty (codes " dirty")
+    codes "frame " ++ hex8 e.frame ++ where_so e.user (codes " user") ++ where_so e.write (codes " write")
+    ++ where_so e.dirty (codes " dirty")
 
 abbrev pub is_same_flag : Bool → Bool → Bool
 is_same_flag a b = if a then b else not b

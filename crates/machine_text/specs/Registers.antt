@@ -82,5 +82,6 @@ doing_text cpu = level_text cpu.cpl ++ (codes "halted  " ++ yes_or_no cpu.halted
 
 unfoldable pub registers_text : Cpu → List ℕ
 registers_text cpu =
-    doing_text cpu ++ (first_text cpu.regs ++ last_text cpu.regs) ++ (long_line (codes "eip     ") cpu.regs.eip ++ flags_text cpu.regs.flags.bits)
+    doing_text cpu ++ (first_text cpu.regs ++ last_text cpu.regs)
+    ++ (long_line (codes "eip     ") cpu.regs.eip ++ flags_text cpu.regs.flags.bits)
     ++ (segments_text cpu ++ controls_text cpu ++ tables_text cpu)

@@ -72,7 +72,8 @@ any_allowed m b = record { each = λ page e is. inl is }
 
 module _ (laws : Laws) (m : Setting) (v : View) (w : IsWedge m) where
   -- no instruction completes
-  none_done : (b : State) (s : Standing) → Beside m v b s → (k : ℕ) (exit : Exit) (t : Standing) → EndsAs m v exit s t → Advanced m v b k s exit t
+  none_done : (b : State) (s : Standing) → Beside m v b s → (k : ℕ) (exit : Exit) (t : Standing) → EndsAs m v exit s t
+      → Advanced m v b k s exit t
   unfolding Steps
   none_done b s h k exit t ends = record {
     n = 0;
@@ -120,7 +121,8 @@ module _ (laws : Laws) (m : Setting) (v : View) (w : IsWedge m) where
     unfolding now
     host_there x e = ap (host_step v s.ram) h.regs ∙ e
 
-    next_from : (x : Completion × List ℕ) → host_step v s.ram s.regs ≡ Ok x → (v.kernel ≡ true → site_at m.image.sites (b.cpu.regs.eip - 0x10000000) ≡ None) → IsNext m v.kernel now
+    next_from : (x : Completion × List ℕ) → host_step v s.ram s.regs ≡ Ok x
+        → (v.kernel ≡ true → site_at m.image.sites (b.cpu.regs.eip - 0x10000000) ≡ None) → IsNext m v.kernel now
     unfolding now
     next_from x e outside = record {
       awake = h.awake;
@@ -131,11 +133,13 @@ module _ (laws : Laws) (m : Setting) (v : View) (w : IsWedge m) where
     }
 
     -- what is done at a site is the jump into the window
-    at_site : v.kernel ≡ true → (site : Site) → site_at m.image.sites (b.cpu.regs.eip - 0x10000000) ≡ Some site → (done : Completion) (ram : List ℕ) → host_step v s.ram s.regs ≡ Ok (done, ram)
+    at_site : v.kernel ≡ true → (site : Site) → site_at m.image.sites (b.cpu.regs.eip - 0x10000000) ≡ Some site
+        → (done : Completion) (ram : List ℕ) → host_step v s.ram s.regs ≡ Ok (done, ram)
         → (done ≡ Entered (record b.cpu.regs { eip = window_at site.at })) × (ram ≡ s.ram)
     unfolding now
     at_site t site there done ram e =
-        laws.at_sites m s.ram v now w stands_now lends_now t site (h.entrance t).above there ((h.entrance t).way_in.first site there) done ram (host_there (Ok (done, ram)) e)
+        laws.at_sites m s.ram v now w stands_now lends_now t site (h.entrance t).above there ((h.entrance t).way_in.first site there) done
+        ram (host_there (Ok (done, ram)) e)
 
     -- ---- it completes
 
@@ -145,10 +149,12 @@ module _ (laws : Laws) (m : Setting) (v : View) (w : IsWedge m) where
         where
           by_site : (o : Option Site) → site_at m.image.sites (b.cpu.regs.eip - 0x10000000) ≡ o → o ≡ None
           by_site None is = refl
-          by_site (Some site) is = absurd (let f : Completed regs ≡ Entered (record b.cpu.regs { eip = window_at site.at }) = (at_site t site is (Completed regs) ram e).0 in cc)
+          by_site (Some site) is = absurd (let f : Completed regs ≡ Entered (record b.cpu.regs { eip = window_at site.at }) =
+              (at_site t site is (Completed regs) ram e).0 in cc)
 
       follows : Follows m v now s.ram regs ram
-      follows = laws.forward m s.ram v now w stands_now lends_now (next_from (Completed regs, ram) e no_site) regs ram (host_there (Ok (Completed regs, ram)) e)
+      follows = laws.forward m s.ram v now w stands_now lends_now (next_from (Completed regs, ram) e no_site) regs ram
+          (host_there (Ok (Completed regs, ram)) e)
 
       after : State
       after = follows.after
@@ -224,14 +230,16 @@ module _ (laws : Laws) (m : Setting) (v : View) (w : IsWedge m) where
         cr3 = ap (λ (c : Cpu). c.cr3) cpu_is;
         cr4 = ap (λ (c : Cpu). c.cr4) cpu_is;
         size = ap (λ (l : List ℕ). length l) follows.stands.ram
-            ∙ (shown_length m w ram follows.stands.host ∙ (sym (shown_length m w s.ram h.stands.host) ∙ sym (ap (λ (l : List ℕ). length l) h.stands.ram)));
+            ∙ (shown_length m w ram follows.stands.host
+            ∙ (sym (shown_length m w s.ram h.stands.host) ∙ sym (ap (λ (l : List ℕ). length l) h.stands.ram)));
       }
 
       -- with the steps after it
       quiet_more : (n : ℕ) → All IsQuiet (steps_by m after (replicate n after.set)) → All IsQuiet (steps_by m b (replicate (suc n) b.set))
       unfolding taken
       quiet_more n rest =
-          let later : All IsQuiet (steps_by m after (replicate n b.set)) = subst (λ (x : Set). All IsQuiet (steps_by m after (replicate n x))) set_is rest in
+          let later : All IsQuiet (steps_by m after (replicate n b.set)) =
+          subst (λ (x : Set). All IsQuiet (steps_by m after (replicate n x))) set_is rest in
           subst (All IsQuiet) (sym (ap (λ (r : Result). steps_behind b b.set r (λ a. steps_by m a (replicate n b.set))) went))
           (all_more IsQuiet taken (steps_by m after (replicate n b.set)) quiet_one later)
 
@@ -245,14 +253,23 @@ module _ (laws : Laws) (m : Setting) (v : View) (w : IsWedge m) where
       one_more : (exit : Exit) (t : Standing) → Advanced m v after k (counted s regs ram) exit t → Advanced m v b (suc k) s exit t
       unfolding Steps
       one_more exit t r =
-          let addresses : direct_addresses m.image.sites (follows.report ∷ r.reports) ≡ b.cpu.regs.eip ∷ direct_addresses m.image.sites r.reports = ap (λ (x : List ℕ). x ++ direct_addresses m.image.sites r.reports) counts in
+          let addresses : direct_addresses m.image.sites (follows.report ∷ r.reports) ≡ b.cpu.regs.eip ∷ direct_addresses m.image.sites
+          r.reports = ap (λ (x : List ℕ). x ++ direct_addresses m.image.sites r.reports) counts in
           record {
             n = suc r.n;
             few = omega (arith, r.few);
             last = r.last;
             after = r.after;
             reports = follows.report ∷ r.reports;
-            steps = (after, follows.report, r.reports, any_allowed m b, went, subst (λ (x : Set). Steps m after (replicate r.n x) r.reports r.after) set_is r.steps, refl);
+            steps = (
+              after,
+              follows.report,
+              r.reports,
+              any_allowed m b,
+              went,
+              subst (λ (x : Set). Steps m after (replicate r.n x) r.reports r.after) set_is r.steps,
+              refl,
+            );
             sets = (
               refl,
               λ report mid is.
@@ -266,11 +283,13 @@ module _ (laws : Laws) (m : Setting) (v : View) (w : IsWedge m) where
             board = r.board ∙ board_on laws.quiet m b after later k r.n r.few q;
             count = omega (arith, r.count, later.count);
             unseen = ap (λ (x : List Rattle.run_trace.specs.declared.items.Item.Item). x ++ trace_of r.reports) follows.unseen ∙ r.unseen;
-            pages = all_more (λ (x : Report). AreKept b.set x.pages) follows.report r.reports pages_kept (subst (λ (x : Set). All (λ (y : Report). AreKept x y.pages) r.reports) set_is r.pages);
+            pages = all_more (λ (x : Report). AreKept b.set x.pages) follows.report r.reports pages_kept
+                (subst (λ (x : Set). All (λ (y : Report). AreKept x y.pages) r.reports) set_is r.pages);
             unwalked = all_more (λ (x : Report). x.tables ≡ []) follows.report r.reports follows.unwalked r.unwalked;
             through = all_more (λ (x : Report). is_load x.completed ≡ false) follows.report r.reports follows.through r.through;
             direct = ap (λ (x : List ℕ). length x) addresses ∙ ap suc r.direct;
-            passed = r.passed ∙ ap (λ (x : ℕ). passed_on (digest s.passed x) (direct_addresses m.image.sites r.reports)) (sym begun_at) ∙ sym (ap (passed_on s.passed) addresses);
+            passed = r.passed ∙ ap (λ (x : ℕ). passed_on (digest s.passed x) (direct_addresses m.image.sites r.reports)) (sym begun_at)
+                ∙ sym (ap (passed_on s.passed) addresses);
             retired = omega (arith, r.retired);
             behind = behind_join m s.ram ram r.last.ram behind r.behind;
             untouched = λ at none. r.untouched at (unlent_on at none) ∙ untouched at (none s.ram (behind_same m s.ram));
@@ -300,16 +319,22 @@ module _ (laws : Laws) (m : Setting) (v : View) (w : IsWedge m) where
     exit_ends exits.Wrap e = refl
     exit_ends exits.Budget e = refl
 
-    entry_ends : (regs : Regs) (ram : List ℕ) → host_step v s.ram s.regs ≡ Ok (Entered regs, ram) → EndsAs m v (exits.Entry regs.eip) s (record s { regs = regs; ram = ram })
+    entry_ends : (regs : Regs) (ram : List ℕ) → host_step v s.ram s.regs ≡ Ok (Entered regs, ram)
+        → EndsAs m v (exits.Entry regs.eip) s (record s { regs = regs; ram = ram })
     entry_ends regs ram e =
         let t = kernel_of regs.eip (laws.enters v s.ram s.regs regs ram e) in
         by_site t (site_at m.image.sites (b.cpu.regs.eip - 0x10000000)) refl
       where
-        by_site : v.kernel ≡ true → (o : Option Site) → site_at m.image.sites (b.cpu.regs.eip - 0x10000000) ≡ o → EndsAs m v (exits.Entry regs.eip) s (record s { regs = regs; ram = ram })
-        by_site t None is = absurd (laws.not_entered m s.ram v now w stands_now lends_now (next_from (Entered regs, ram) e (λ u. is)) regs ram (host_there (Ok (Entered regs, ram)) e))
+        by_site : v.kernel ≡ true → (o : Option Site) → site_at m.image.sites (b.cpu.regs.eip - 0x10000000) ≡ o
+            → EndsAs m v (exits.Entry regs.eip) s (record s { regs = regs; ram = ram })
+        by_site t None is =
+            absurd (laws.not_entered m s.ram v now w stands_now lends_now (next_from (Entered regs, ram) e (λ u. is)) regs ram
+            (host_there (Ok (Entered regs, ram)) e))
         by_site t (Some site) is =
             let x = at_site t site is (Entered regs) ram e in
-            let regs_are : regs ≡ record s.regs { eip = window_at site.at } = entered_same regs (record b.cpu.regs { eip = window_at site.at }) x.0 ∙ ap (λ (r : Regs). record r { eip = window_at site.at }) h.regs in
+            let regs_are : regs ≡ record s.regs { eip = window_at site.at } =
+            entered_same regs (record b.cpu.regs { eip = window_at site.at }) x.0
+            ∙ ap (λ (r : Regs). record r { eip = window_at site.at }) h.regs in
             let eip_is : regs.eip ≡ window_at site.at = ap (λ (r : Regs). r.eip) regs_are in
             let first = (h.entrance t).way_in.first site is in
             let above = (h.entrance t).above in
@@ -321,18 +346,23 @@ module _ (laws : Laws) (m : Setting) (v : View) (w : IsWedge m) where
               place,
               there,
               eip_is,
-              ap (λ (r : Regs). record s { regs = r; ram = ram }) (regs_are ∙ ap (λ (n : ℕ). record s.regs { eip = n }) (sym eip_is)) ∙ ap (λ (x : List ℕ). record s { regs = record s.regs { eip = regs.eip }; ram = x }) x.1,
+              ap (λ (r : Regs). record s { regs = r; ram = ram }) (regs_are ∙ ap (λ (n : ℕ). record s.regs { eip = n }) (sym eip_is))
+                  ∙ ap (λ (x : List ℕ). record s { regs = record s.regs { eip = regs.eip }; ram = x }) x.1,
             )
 
     by_step : (met : Met (Completion × List ℕ)) → host_step v s.ram s.regs ≡ met
         → ((c : State) (t : Standing) → Beside m v c t → AreQuiet m c k → Advanced m v c k t (host_run v k t).0 (host_run v k t).1)
         → Advanced m v b (suc k) s (after_step s met (host_run v k)).0 (after_step s met (host_run v k)).1
     by_step (Ok (Completed regs, ram)) e rest =
-        one_more regs ram e _ _ (rest (after regs ram e) (counted s regs ram) (beside regs ram e) (quiet_on laws.quiet m b (after regs ram e) (later regs ram e) k q))
-    by_step (Ok (Entered regs, ram)) e rest = none_done b s h (suc k) (exits.Entry regs.eip) (record s { regs = regs; ram = ram }) (entry_ends regs ram e)
+        one_more regs ram e _ _
+        (rest (after regs ram e) (counted s regs ram) (beside regs ram e)
+        (quiet_on laws.quiet m b (after regs ram e) (later regs ram e) k q))
+    by_step (Ok (Entered regs, ram)) e rest =
+        none_done b s h (suc k) (exits.Entry regs.eip) (record s { regs = regs; ram = ram }) (entry_ends regs ram e)
     by_step (Err exit) e rest = none_done b s h (suc k) exit s (exit_ends exit e)
 
-  pub advanced : (k : ℕ) (b : State) (s : Standing) → Beside m v b s → AreQuiet m b k → Advanced m v b k s (host_run v k s).0 (host_run v k s).1
+  pub advanced : (k : ℕ) (b : State) (s : Standing) → Beside m v b s → AreQuiet m b k
+      → Advanced m v b k s (host_run v k s).0 (host_run v k s).1
   unfolding host_run Steps
   advanced zero b s h q = none_done b s h zero exits.Budget s refl
   advanced (suc k) b s h q = by_step b s k h q (host_step v s.ram s.regs) refl (advanced k)

@@ -60,7 +60,8 @@ any_by q [] k lt e = absurd (omega (arith, lt))
 any_by q (p ∷ ps) zero lt e = ap (λ t. t || is_among q ps) (eq-eqb q p (sym e))
 any_by q (p ∷ ps) (suc k) lt e = ap (λ t. (q == p) || t) (any_by q ps k (omega (arith, lt)) e) ∙ or-true (q == p)
 
-not_refused : (o : Option Entry) (access : Access) (wp : Bool) → is_refused_by o access wp ≡ false → ForSome o (λ e. allows e access wp ≡ true)
+not_refused : (o : Option Entry) (access : Access) (wp : Bool) → is_refused_by o access wp ≡ false
+    → ForSome o (λ e. allows e access wp ≡ true)
 not_refused None access wp h x e = absurd cc
 not_refused (Some y) access wp h x e = let same : y ≡ x = cc in ap (λ z. allows z access wp) (sym same) ∙ allowed (allows y access wp) h
   where
@@ -71,12 +72,15 @@ not_refused (Some y) access wp h x e = let same : y ≡ x = cc in ap (λ z. allo
 abbrev as_use : State → Use → clashing.Use
 as_use b u = record { page = u.page; access = by_level b.cpu u.write }
 
-clear_told : (b : State) (ps : List ℕ) (us : List Use) → clash_behind (get b.set) (wp_of b.cpu) ps (map (as_use b) us) ≡ false → AreClear b.set (b.cpu.cpl == 3) (wp_of b.cpu) ps us
+clear_told : (b : State) (ps : List ℕ) (us : List Use) → clash_behind (get b.set) (wp_of b.cpu) ps (map (as_use b) us) ≡ false
+    → AreClear b.set (b.cpu.cpl == 3) (wp_of b.cpu) ps us
 clear_told b ps [] h = tt
 clear_told b ps (u ∷ us) h =
     let access : Access = by_level b.cpu u.write in
-    let p = or_parts (is_among u.page ps && is_refused_by (get b.set u.page) access (wp_of b.cpu)) (clash_behind (get b.set) (wp_of b.cpu) (u.page ∷ ps) (map (as_use b) us)) h in (
-      λ c. not_refused (get b.set u.page) access (wp_of b.cpu) (second_false (is_among u.page ps) (is_refused_by (get b.set u.page) access (wp_of b.cpu)) (any_by u.page ps c.0 c.1 c.2) p.0),
+    let p = or_parts (is_among u.page ps && is_refused_by (get b.set u.page) access (wp_of b.cpu))
+    (clash_behind (get b.set) (wp_of b.cpu) (u.page ∷ ps) (map (as_use b) us)) h in (
+      λ c. not_refused (get b.set u.page) access (wp_of b.cpu)
+          (second_false (is_among u.page ps) (is_refused_by (get b.set u.page) access (wp_of b.cpu)) (any_by u.page ps c.0 c.1 c.2) p.0),
       clear_told b (u.page ∷ ps) us p.1,
     )
 
@@ -96,21 +100,25 @@ module _ (b : State) where
   abbrev other : Bool → ℕ → ℕ → List clashing.Use
   other write first last = cond (last == first) [] (as_use b (used write last) ∷ [])
 
-  map_other : (write : Bool) (first last : ℕ) (t : Bool) → map (as_use b) (cond t [] (used write last ∷ [])) ≡ cond t [] (as_use b (used write last) ∷ [])
+  map_other : (write : Bool) (first last : ℕ) (t : Bool) → map (as_use b) (cond t [] (used write last ∷ [])) ≡ cond t []
+      (as_use b (used write last) ∷ [])
   map_other write first last true = refl
   map_other write first last false = refl
 
-  range_same : (write : Bool) (o : Option Range) → IsShort o → map (as_use b) (range_uses write o) ≡ clashing.uses_of (by_level b.cpu write) o
+  range_same : (write : Bool) (o : Option Range) → IsShort o → map (as_use b) (range_uses write o) ≡ clashing.uses_of
+      (by_level b.cpu write) o
   range_same write None short = refl
   range_same write (Some r) short =
       ap (λ (l : List clashing.Use). as_use b (used write (r.at / 4096)) ∷ l)
       (map_other write (r.at / 4096) (last_page r) (last_page r == r.at / 4096) ∙ ap (other write (r.at / 4096)) (last_same r short.0))
 
   all_same : (pages : List ℕ) (ranges : Ranges) → IsShort ranges.read × IsShort ranges.write
-      → map (as_use b) (uses_of pages ranges) ≡ fetch_uses b pages ++ (clashing.uses_of (by_level b.cpu false) ranges.read ++ clashing.uses_of (by_level b.cpu true) ranges.write)
+      → map (as_use b) (uses_of pages ranges) ≡ fetch_uses b pages
+      ++ (clashing.uses_of (by_level b.cpu false) ranges.read ++ clashing.uses_of (by_level b.cpu true) ranges.write)
   all_same pages ranges short =
       map-append (as_use b) (map (used false) pages) (range_uses false ranges.read ++ range_uses true ranges.write)
-      ∙ ap (λ (l : List clashing.Use). l ++ map (as_use b) (range_uses false ranges.read ++ range_uses true ranges.write)) (fetch_same pages)
+      ∙ ap (λ (l : List clashing.Use). l ++ map (as_use b) (range_uses false ranges.read ++ range_uses true ranges.write))
+      (fetch_same pages)
       ∙ ap (λ (l : List clashing.Use). fetch_uses b pages ++ l)
       (map-append (as_use b) (range_uses false ranges.read) (range_uses true ranges.write)
       ∙ ap (λ (l : List clashing.Use). l ++ map (as_use b) (range_uses true ranges.write)) (range_same false ranges.read short.0)
@@ -118,7 +126,8 @@ module _ (b : State) where
 
 -- an instruction that was fetched, that no null segment denies, and that doesn't clash
 pub clear_from : (m : Setting) (b : State) (insn : Insn) (len : ℕ) (fetch : Space)
-    → fetched (b.cpu.cpl == 3) b.cpu.regs.eip (space_at_start m.mode m.frames b.cpu b.ram b.set) ≡ Ok (begins.Insn insn len, fetch) → is_refused b.cpu (ranges_of insn b.cpu.regs) ≡ false → instruction_clashes m b ≡ false
+    → fetched (b.cpu.cpl == 3) b.cpu.regs.eip (space_at_start m.mode m.frames b.cpu b.ram b.set) ≡ Ok (begins.Insn insn len, fetch)
+    → is_refused b.cpu (ranges_of insn b.cpu.regs) ≡ false → instruction_clashes m b ≡ false
     → AreClear b.set (b.cpu.cpl == 3) (wp_of b.cpu) [] (uses_of fetch.visited (ranges_of insn b.cpu.regs))
 unfolding instruction_clashes
 clear_from m b insn len fetch e free h =
@@ -127,4 +136,5 @@ clear_from m b insn len fetch e free h =
     let used_is : clashing.ranges_used b.cpu ranges ≡ both = ap (λ (t : Bool). cond t [] both) free in
     clear_told b [] (uses_of fetch.visited ranges)
     (ap (clash_behind (get b.set) (wp_of b.cpu) [])
-    (all_same b fetch.visited ranges (ranges_short insn b.cpu.regs) ∙ ap (λ (l : List clashing.Use). fetch_uses b fetch.visited ++ l) (sym used_is) ∙ sym (ap (clashing.uses_by b) e)) ∙ h)
+    (all_same b fetch.visited ranges (ranges_short insn b.cpu.regs) ∙ ap (λ (l : List clashing.Use). fetch_uses b fetch.visited ++ l)
+    (sym used_is) ∙ sym (ap (clashing.uses_by b) e)) ∙ h)

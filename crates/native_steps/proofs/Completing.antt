@@ -79,7 +79,8 @@ module _ (image : Image) (laws : TextLaws image) where
   unfolding places.is_start
   start_at at e =
       let back : linear at - 0x10000000 ≡ at = omega arith in
-      ap (λ x. x && is_among (linear at - 0x10000000) (Rattle.image_check.specs.Sweep.starts_of image.text)) (le-leb 0x10000000 (linear at) (omega arith))
+      ap (λ x. x && is_among (linear at - 0x10000000) (Rattle.image_check.specs.Sweep.starts_of image.text))
+      (le-leb 0x10000000 (linear at) (omega arith))
       ∙ ap (λ n. is_among n (Rattle.image_check.specs.Sweep.starts_of image.text)) back
       ∙ e
 
@@ -88,15 +89,18 @@ module _ (image : Image) (laws : TextLaws image) where
       let back : at ≡ linear at - 0x10000000 = omega arith in
       record { above = omega arith; start = start_at at h.start; way_in = subst (IsWayIn image) back h }
 
-  pub start_there : (eip : ℕ) → rules.is_start image eip ≡ true → (0x10000000 ≤ eip) × (places.is_start image.text (eip - 0x10000000) ≡ true)
+  pub start_there : (eip : ℕ) → rules.is_start image eip ≡ true → (0x10000000 ≤ eip)
+      × (places.is_start image.text (eip - 0x10000000) ≡ true)
   unfolding places.is_start
   start_there eip e =
       let p = and_parts (nat_le 0x10000000 eip) _ e in
       (leb-true 0x10000000 eip p.0, p.1)
 
-  pub goes_in : (r : Regs) (insn : Insn) (len : ℕ) (b : ℕ → ℕ) (regs : Regs) (stores : Stores) → IsSwept image r.eip insn len → effect insn len r b ≡ outcomes.Done regs stores → IsEntrance image regs.eip
+  pub goes_in : (r : Regs) (insn : Insn) (len : ℕ) (b : ℕ → ℕ) (regs : Regs) (stores : Stores) → IsSwept image r.eip insn len
+      → effect insn len r b ≡ outcomes.Done regs stores → IsEntrance image regs.eip
   goes_in r insn len b regs stores t e =
-      let there : effect t.swept.insn t.swept.len r b ≡ outcomes.Done regs stores = ap (λ (i : Insn). effect i t.swept.len r b) (sym t.insn_is) ∙ ap (λ n. effect insn n r b) (sym t.len_is) ∙ e in
+      let there : effect t.swept.insn t.swept.len r b ≡ outcomes.Done regs stores =
+      ap (λ (i : Insn). effect i t.swept.len r b) (sym t.insn_is) ∙ ap (λ n. effect insn n r b) (sym t.len_is) ∙ e in
       let p = laws.goes_on t.swept t.outside r t.place b regs stores there in
       subst (IsEntrance image) (sym p.1) (entrance p.0 p.2)
 
@@ -107,16 +111,20 @@ no_window at le = either (nat_le 67108864 at) (le-ltb at 100663296 (omega (arith
     either true e = e
     either false e = refl
 
-module _ (flags : EffectLaws) (m : Setting) (w : IsWedge m) (laws : TextLaws m.image) (memory : List ℕ) (v : View) (b : State) (stands : Mirrors m memory v b) (next : IsNext m v.kernel b)
-    (insn : Insn) (len : ℕ) (c : IsCommon flags m w memory v b stands next insn len) (text : v.kernel ≡ true → IsSwept m.image b.cpu.regs.eip insn len)
+module _ (flags : EffectLaws) (m : Setting) (w : IsWedge m) (laws : TextLaws m.image) (memory : List ℕ) (v : View) (b : State)
+    (stands : Mirrors m memory v b) (next : IsNext m v.kernel b)
+    (insn : Insn) (len : ℕ) (c : IsCommon flags m w memory v b stands next insn len)
+    (text : v.kernel ≡ true → IsSwept m.image b.cpu.regs.eip insn len)
   where
-    done_flags : (o : exec.Outcome) (regs : Regs) (stores : Stores) → o ≡ outcomes.Done regs stores → Leaves b.cpu.regs o → AreKept b.cpu.regs.flags regs.flags
+    done_flags : (o : exec.Outcome) (regs : Regs) (stores : Stores) → o ≡ outcomes.Done regs stores → Leaves b.cpu.regs o
+        → AreKept b.cpu.regs.flags regs.flags
     done_flags o regs stores e h = let k = subst (Leaves b.cpu.regs) e h in k
 
     module _ (regs : Regs) (stores : Stores) (e : effect_of v b insn len ≡ outcomes.Done regs stores) where
       pub leads : v.kernel ≡ true → IsEntrance m.image regs.eip
       leads k =
-          let same : effect insn len b.cpu.regs (byte_of b) ≡ outcomes.Done regs stores = sym (plain_effect (selectors_of v) insn len b.cpu.regs (byte_of b) (c.plain_is k)) ∙ e in
+          let same : effect insn len b.cpu.regs (byte_of b) ≡ outcomes.Done regs stores =
+          sym (plain_effect (selectors_of v) insn len b.cpu.regs (byte_of b) (c.plain_is k)) ∙ e in
           goes_in m.image laws b.cpu.regs insn len (byte_of b) regs stores (text k) same
 
       kept : AreKept b.cpu.regs.flags regs.flags
@@ -129,7 +137,8 @@ module _ (flags : EffectLaws) (m : Setting) (w : IsWedge m) (laws : TextLaws m.i
       pub completes : ended v insn.op regs ≡ Completed regs
       completes = either (is_jump insn.op) (not_entry v.kernel refl)
         where
-          either : (j : Bool) → is_entry v regs.eip ≡ false → cond (j && is_entry v regs.eip) (Entered regs) (Completed regs) ≡ Completed regs
+          either : (j : Bool) → is_entry v regs.eip ≡ false
+              → cond (j && is_entry v regs.eip) (Entered regs) (Completed regs) ≡ Completed regs
           either true f = cond-false (is_entry v regs.eip) (Entered regs) (Completed regs) f
           either false f = refl
 
@@ -141,7 +150,8 @@ module _ (flags : EffectLaws) (m : Setting) (w : IsWedge m) (laws : TextLaws m.i
 
       host : host_step v memory b.cpu.regs ≡ Ok (Completed regs, after_memory)
       unfolding after_memory
-      host = n.host ∙ ap (finished v insn.op memory) e ∙ ap (λ (d : Completion). Ok (d, all_stored (place memory v.root) memory (list_of stores))) completes
+      host = n.host ∙ ap (finished v insn.op memory) e
+          ∙ ap (λ (d : Completion). Ok (d, all_stored (place memory v.root) memory (list_of stores))) completes
 
       -- ---- the stores
 
@@ -158,20 +168,24 @@ module _ (flags : EffectLaws) (m : Setting) (w : IsWedge m) (laws : TextLaws m.i
         },
       )
 
-      stored : AreStored (λ a. space.place n.space a ≡ place memory v.root a) stores × AreStored (IsPlace m w memory (place memory v.root)) stores
+      stored : AreStored (λ a. space.place n.space a ≡ place memory v.root a) stores
+          × AreStored (IsPlace m w memory (place memory v.root)) stores
       stored =
           parts_stored (λ a. space.place n.space a ≡ place memory v.root a) (IsPlace m w memory (place memory v.root)) stores
           (within_user IsBoth (selectors_of v) insn len b.cpu.regs (byte_of b) (outcomes.Done regs stores) (sym e)
           (covers m w memory v b stands IsBoth found_both true (ranges_of insn b.cpu.regs).write c.write))
 
-      keeps : Keeps m w memory (place memory v.root) (all_stored (place memory v.root) memory (list_of stores)) (all_stored (place memory v.root) (shown m memory) (list_of stores))
+      keeps : Keeps m w memory (place memory v.root) (all_stored (place memory v.root) memory (list_of stores))
+          (all_stored (place memory v.root) (shown m memory) (list_of stores))
       keeps = stores_kept m w memory (place memory v.root) stands.host stores stored.1
 
       -- none of them lies in a frame to which no write passes
-      untouched : (at : ℕ) → IsUnlent memory v.root at → frame (all_stored (place memory v.root) memory (list_of stores)) at ≡ frame memory at
+      untouched : (at : ℕ) → IsUnlent memory v.root at → frame (all_stored (place memory v.root) memory (list_of stores))
+          at ≡ frame memory at
       untouched at none =
           frame_still memory (place memory v.root) at stores
-          (within_user (IsBeside memory (place memory v.root) at) (selectors_of v) insn len b.cpu.regs (byte_of b) (outcomes.Done regs stores) (sym e)
+          (within_user (IsBeside memory (place memory v.root) at) (selectors_of v) insn len b.cpu.regs (byte_of b)
+          (outcomes.Done regs stores) (sym e)
           (covers_elsewhere m w memory v b stands at none (IsBeside memory (place memory v.root) at) (λ a f other. record {
             within = let lt = f.within in let p = f.host in let room = stands.host.room in omega (arith, lt, p, room);
             other = other;
@@ -196,7 +210,8 @@ module _ (flags : EffectLaws) (m : Setting) (w : IsWedge m) (laws : TextLaws m.i
 
       end_pages : Rattle.native_steps.specs.Lends.AreKept b.set end.visited
       unfolding end
-      end_pages = subst (Rattle.native_steps.specs.Lends.AreKept b.set) (ap (λ (s : Space). s.visited) (sym (stored_is n.space (list_of stores)))) n.visited
+      end_pages = subst (Rattle.native_steps.specs.Lends.AreKept b.set)
+          (ap (λ (s : Space). s.visited) (sym (stored_is n.space (list_of stores)))) n.visited
 
       end_tables : end.tables ≡ []
       unfolding end
@@ -217,27 +232,32 @@ module _ (flags : EffectLaws) (m : Setting) (w : IsWedge m) (laws : TextLaws m.i
       report : step.Report
       report = record { items = []; completed = Some (step.begun b insn); pages = end.visited; tables = end.tables; wrote = end.wrote }
 
-      stays_there : (mode : Mode) (cpl : ℕ) (k : Bool) → IsLevelOf k cpl → (x : Bool) → cond {A = Bool} true (not (cpl == 0 && cpl == 3) || x) true ≡ true
+      stays_there : (mode : Mode) (cpl : ℕ) (k : Bool) → IsLevelOf k cpl → (x : Bool)
+          → cond {A = Bool} true (not (cpl == 0 && cpl == 3) || x) true ≡ true
       stays_there mode cpl true l x = ap (λ y. not (y == 0 && y == 3) || x) l
       stays_there mode cpl false l x = ap (λ y. not (y == 0 && y == 3) || x) l
 
       may_leave : (mode : Mode) → rules.may_leave mode (step.unheld b).cpu new_cpu ≡ true
       unfolding new_cpu
       may_leave Bare = refl
-      may_leave (Wedge t count own) = stays_there Bare b.cpu.cpl v.kernel stands.sees.level (rules.is_open (record b.cpu { regs = regs; held = false }))
+      may_leave (Wedge t count own) =
+          stays_there Bare b.cpu.cpl v.kernel stands.sees.level (rules.is_open (record b.cpu { regs = regs; held = false }))
 
       went : step.stepped m b ≡ step.Went report after
       unfolding after report new_cpu end
       went =
           n.guest
-          ∙ ap (λ (o : exec.Outcome). step.after_instruction m (step.unheld b) (step.begun b insn) (user_finished (step.unheld b).cpu o n.space)) e
-          ∙ cond-true (rules.may_leave m.mode (step.unheld b).cpu (record b.cpu { regs = regs; held = false })) (step.Went report after) (step.Halts stops.UserFlags) (may_leave m.mode)
+          ∙ ap (λ (o : exec.Outcome). step.after_instruction m (step.unheld b) (step.begun b insn)
+          (user_finished (step.unheld b).cpu o n.space)) e
+          ∙ cond-true (rules.may_leave m.mode (step.unheld b).cpu (record b.cpu { regs = regs; held = false })) (step.Went report after)
+          (step.Halts stops.UserFlags) (may_leave m.mode)
 
       still_open : rules.is_open b.cpu ≡ true → rules.is_open new_cpu ≡ true
       unfolding new_cpu
       still_open h =
           let k = kept in
-          ap (λ x. (x == 1) && (regs.flags.bits / 4096 % 4 == 0)) k.interrupt ∙ ap (λ x. (b.cpu.regs.flags.bits / 512 % 2 == 1) && (x % 4 == 0)) k.level ∙ h
+          ap (λ x. (x == 1) && (regs.flags.bits / 4096 % 4 == 0)) k.interrupt
+          ∙ ap (λ x. (b.cpu.regs.flags.bits / 512 % 2 == 1) && (x % 4 == 0)) k.level ∙ h
 
       still_sees : Sees v new_cpu
       unfolding new_cpu

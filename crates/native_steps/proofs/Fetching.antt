@@ -73,7 +73,8 @@ module _ (m : Setting) (b : State) (kernel : Bool) where
   next_place : (eip frame : ℕ) → 4096 * frame + next_page eip % 4096 ≡ 4096 * frame
   next_place eip frame = omega arith
 
-  on_comes : (s : Space) (eip next : ℕ) (front : List ℕ) (insn : Insn) (len : ℕ) → At m b s → Fetches m b kernel (eip / 4096 + 1) next → decoded (front ++ back_at b.ram next) ≡ begins.Insn insn len
+  on_comes : (s : Space) (eip next : ℕ) (front : List ℕ) (insn : Insn) (len : ℕ) → At m b s → Fetches m b kernel (eip / 4096 + 1) next
+      → decoded (front ++ back_at b.ram next) ≡ begins.Insn insn len
       → Comes m b (begins.Insn insn len) (fetched_on (not kernel) eip front s)
   unfolding fetched_on
   on_comes s eip next front insn len h f is =
@@ -81,26 +82,35 @@ module _ (m : Setting) (b : State) (kernel : Bool) where
       let whole : decoded (front ++ part b.ram (4096 * next + next_page eip % 4096) longest) ≡ begins.Insn insn len =
       ap (λ (x : ℕ). decoded (front ++ part b.ram x longest)) (next_place eip next) ∙ is in
       comes_then m b kernel (owning_front eip (front_len eip) s) _ tt (begins.Insn insn len) (front_kept eip (front_len eip) s h) (λ t ht.
-      comes_then m b kernel (fetching (not kernel) (next_page eip) longest t) (λ more. owned eip (decoded (front ++ more))) (part b.ram (4096 * next + next_page eip % 4096) longest) (begins.Insn insn len)
+      comes_then m b kernel (fetching (not kernel) (next_page eip) longest t) (λ more. owned eip (decoded (front ++ more)))
+      (part b.ram (4096 * next + next_page eip % 4096) longest) (begins.Insn insn len)
       (fetching_comes m b kernel t (next_page eip) longest next ht g.entry g.free) (λ u hu.
-      moved (begins.Insn insn len) (begins.Insn insn len) (owned eip (begins.Insn insn len) u) _ refl (ap (λ (d : Decoded). owned eip d u) whole)
-      (comes_then m b kernel (owning_back (next_page eip) (len - front_len eip) u) (λ x. gives (begins.Insn insn len)) tt (begins.Insn insn len) (back_kept (next_page eip) (len - front_len eip) u hu) (λ w hw. given (begins.Insn insn len) w hw))))
+      moved (begins.Insn insn len) (begins.Insn insn len) (owned eip (begins.Insn insn len) u) _ refl
+      (ap (λ (d : Decoded). owned eip d u) whole)
+      (comes_then m b kernel (owning_back (next_page eip) (len - front_len eip) u) (λ x. gives (begins.Insn insn len)) tt
+      (begins.Insn insn len) (back_kept (next_page eip) (len - front_len eip) u hu) (λ w hw. given (begins.Insn insn len) w hw))))
 
   -- the bytes begin the instruction, in one page or in two
-  pub fetched_comes : (s : Space) (eip : ℕ) (insn : Insn) (len : ℕ) → At m b s → Way (Fetches m b kernel) b.ram eip insn len → Comes m b (begins.Insn insn len) (fetched (not kernel) eip s)
+  pub fetched_comes : (s : Space) (eip : ℕ) (insn : Insn) (len : ℕ) → At m b s → Way (Fetches m b kernel) b.ram eip insn len
+      → Comes m b (begins.Insn insn len) (fetched (not kernel) eip s)
   unfolding fetched
   fetched_comes s eip insn len h (inl w) =
-      comes_then m b kernel (fetching (not kernel) eip (front_len eip) s) (λ front. fetched_by (not kernel) eip front (decoded front)) (front_at b.ram w.frame eip) (begins.Insn insn len)
+      comes_then m b kernel (fetching (not kernel) eip (front_len eip) s) (λ front. fetched_by (not kernel) eip front (decoded front))
+      (front_at b.ram w.frame eip) (begins.Insn insn len)
       (fetching_comes m b kernel s eip (front_len eip) w.frame h w.page.entry w.page.free) (λ t ht.
-      moved (begins.Insn insn len) (begins.Insn insn len) (fetched_by (not kernel) eip (front_at b.ram w.frame eip) (begins.Insn insn len) t) _ refl
+      moved (begins.Insn insn len) (begins.Insn insn len)
+      (fetched_by (not kernel) eip (front_at b.ram w.frame eip) (begins.Insn insn len) t) _ refl
       (ap (λ (d : Decoded). fetched_by (not kernel) eip (front_at b.ram w.frame eip) d t) w.is)
-      (comes_then m b kernel (owning_front eip len t) (λ x. gives (begins.Insn insn len)) tt (begins.Insn insn len) (front_kept eip len t ht) (λ u hu. given (begins.Insn insn len) u hu)))
+      (comes_then m b kernel (owning_front eip len t) (λ x. gives (begins.Insn insn len)) tt (begins.Insn insn len)
+      (front_kept eip len t ht) (λ u hu. given (begins.Insn insn len) u hu)))
   fetched_comes s eip insn len h (inr w) =
-      comes_then m b kernel (fetching (not kernel) eip (front_len eip) s) (λ front. fetched_by (not kernel) eip front (decoded front)) (front_at b.ram w.frame eip) (begins.Insn insn len)
+      comes_then m b kernel (fetching (not kernel) eip (front_len eip) s) (λ front. fetched_by (not kernel) eip front (decoded front))
+      (front_at b.ram w.frame eip) (begins.Insn insn len)
       (fetching_comes m b kernel s eip (front_len eip) w.frame h w.page.entry w.page.free) (λ t ht.
       moved (begins.Insn insn len) (begins.Insn insn len) (fetched_on (not kernel) eip (front_at b.ram w.frame eip) t) _ refl
       (ap (λ (d : Decoded). fetched_by (not kernel) eip (front_at b.ram w.frame eip) d t) w.cut
-      ∙ ap (λ (last : Bool). cond last (refuses (refusal.Stop stops.WrapAccess)) (fetched_on (not kernel) eip (front_at b.ram w.frame eip)) t) w.not_last)
+      ∙ ap (λ (last : Bool). cond last (refuses (refusal.Stop stops.WrapAccess))
+      (fetched_on (not kernel) eip (front_at b.ram w.frame eip)) t) w.not_last)
       (on_comes t eip w.next (front_at b.ram w.frame eip) insn len ht w.next_page w.is))
 
 -- ---- through which pages a fetch goes
@@ -113,31 +123,39 @@ made_went (Stop stop) s at len = refl
 fetches_went : (s : Space) (at len : ℕ) (user : Bool) → (fetches s at len user).1.visited ≡ s.visited ++ (at / 4096) ∷ []
 unfolding fetches
 fetches_went s at len user =
-    made_went (page_uses (unready s) true (at / 4096) at (record { write = false; user = user })).0 (page_uses (unready s) true (at / 4096) at (record { write = false; user = user })).1 at len
+    made_went (page_uses (unready s) true (at / 4096) at (record { write = false; user = user })).0
+    (page_uses (unready s) true (at / 4096) at (record { write = false; user = user })).1 at len
     ∙ page_went (unready s) true (at / 4096) at (record { write = false; user = user })
 
-taken_went : (at len : ℕ) (o : Touch) (s : Space) (bytes : List ℕ) (t : Space) → bytes_fetched at len o s ≡ Ok (bytes, t) → t.visited ≡ s.visited
-taken_went at len Ready s bytes t e = let p : ◌≡◌ {A = List ℕ × Space} (part s.ram (place s at) len, s) (bytes, t) = cc in sym (ap (λ (q : List ℕ × Space). q.1.visited) p)
+taken_went : (at len : ℕ) (o : Touch) (s : Space) (bytes : List ℕ) (t : Space) → bytes_fetched at len o s ≡ Ok (bytes, t)
+    → t.visited ≡ s.visited
+taken_went at len Ready s bytes t e = let p : ◌≡◌ {A = List ℕ × Space} (part s.ram (place s at) len, s) (bytes, t) =
+    cc in sym (ap (λ (q : List ℕ × Space). q.1.visited) p)
 taken_went at len (Fault code cr2) s bytes t e = absurd cc
 taken_went at len (Stop stop) s bytes t e = absurd cc
 
-pub fetching_went : (user : Bool) (at len : ℕ) (s : Space) (bytes : List ℕ) (t : Space) → fetching user at len s ≡ Ok (bytes, t) → t.visited ≡ s.visited ++ (at / 4096) ∷ []
+pub fetching_went : (user : Bool) (at len : ℕ) (s : Space) (bytes : List ℕ) (t : Space) → fetching user at len s ≡ Ok (bytes, t)
+    → t.visited ≡ s.visited ++ (at / 4096) ∷ []
 unfolding fetching
-fetching_went user at len s bytes t e = taken_went at len (fetches s at len user).0 (fetches s at len user).1 bytes t e ∙ fetches_went s at len user
+fetching_went user at len s bytes t e =
+    taken_went at len (fetches s at len user).0 (fetches s at len user).1 bytes t e ∙ fetches_went s at len user
 
 -- ---- a fetch that passed, in parts
 
-pub bound : {E A B : Type 0} (o : Outcome E A) (f : A → Work E B) (y : B) (t : Space) → on_value o f ≡ Ok (y, t) → (x : A) × (u : Space) × ((o ≡ Ok (x, u)) × (f x u ≡ Ok (y, t)))
+pub bound : {E A B : Type 0} (o : Outcome E A) (f : A → Work E B) (y : B) (t : Space) → on_value o f ≡ Ok (y, t) → (x : A) × (u : Space)
+    × ((o ≡ Ok (x, u)) × (f x u ≡ Ok (y, t)))
 bound (Ok x) f y t e = (x.0, x.1, (refl, e))
 bound (Err x) f y t e = absurd cc
 
 front_went : (at len : ℕ) (s t : Space) (x : Unit {0}) → owning_front at len s ≡ Ok (x, t) → t.visited ≡ s.visited
 unfolding owning_front
-front_went at len s t x e = let p : ◌≡◌ {A = Unit {0} × Space} (tt, record s { mode = with_front s.mode (place s at) len }) (x, t) = cc in sym (ap (λ (q : Unit {0} × Space). q.1.visited) p)
+front_went at len s t x e = let p : ◌≡◌ {A = Unit {0} × Space} (tt, record s { mode = with_front s.mode (place s at) len }) (x, t) =
+    cc in sym (ap (λ (q : Unit {0} × Space). q.1.visited) p)
 
 back_went : (at len : ℕ) (s t : Space) (x : Unit {0}) → owning_back at len s ≡ Ok (x, t) → t.visited ≡ s.visited
 unfolding owning_back
-back_went at len s t x e = let p : ◌≡◌ {A = Unit {0} × Space} (tt, record s { mode = with_back s.mode (place s at) len }) (x, t) = cc in sym (ap (λ (q : Unit {0} × Space). q.1.visited) p)
+back_went at len s t x e = let p : ◌≡◌ {A = Unit {0} × Space} (tt, record s { mode = with_back s.mode (place s at) len }) (x, t) =
+    cc in sym (ap (λ (q : Unit {0} × Space). q.1.visited) p)
 
 pub same_space : {A : Type 0} (x y : A) (s t : Space) → ◌≡◌ {A = Outcome Refusal A} (Ok (x, s)) (Ok (y, t)) → s ≡ t
 same_space {A} x y s t e = let p : ◌≡◌ {A = A × Space} (x, s) (y, t) = cc in ap (λ (q : A × Space). q.1) p
@@ -152,7 +170,8 @@ pub record IsFetch (user : Bool) (eip : ℕ) (insn : Insn) (len : ℕ) (s t : Sp
   pub reads : fetching user eip (front_len eip) s ≡ Ok (front, first)
   pub goes_on : fetched_by user eip front (decoded front) first ≡ Ok (begins.Insn insn len, t)
 
-pub fetch_parts : (user : Bool) (eip : ℕ) (insn : Insn) (len : ℕ) (s t : Space) → fetched user eip s ≡ Ok (begins.Insn insn len, t) → IsFetch user eip insn len s t
+pub fetch_parts : (user : Bool) (eip : ℕ) (insn : Insn) (len : ℕ) (s t : Space) → fetched user eip s ≡ Ok (begins.Insn insn len, t)
+    → IsFetch user eip insn len s t
 unfolding fetched
 fetch_parts user eip insn len s t e =
     let p = bound (fetching user eip (front_len eip) s) (λ front. fetched_by user eip front (decoded front)) (begins.Insn insn len) t e in
@@ -160,10 +179,15 @@ fetch_parts user eip insn len s t e =
 
 owned_parts : (eip : ℕ) (d : Decoded) (s t : Space) (x : Decoded) → owned eip d s ≡ Ok (x, t) → (d ≡ x) × (t.visited ≡ s.visited)
 owned_parts eip (begins.Insn i l) s t x e =
-    let p = bound (owning_back (next_page eip) (l - front_len eip) s) (λ y. gives (begins.Insn i l)) x t e in
-    (same_value (begins.Insn i l) x p.1 t p.2.1, ap (λ (q : Space). q.visited) (sym (same_space (begins.Insn i l) x p.1 t p.2.1)) ∙ back_went (next_page eip) (l - front_len eip) s p.1 p.0 p.2.0)
-owned_parts eip begins.Outside s t x e = (same_value begins.Outside x s t e, ap (λ (q : Space). q.visited) (sym (same_space begins.Outside x s t e)))
-owned_parts eip begins.Short s t x e = (same_value begins.Short x s t e, ap (λ (q : Space). q.visited) (sym (same_space begins.Short x s t e)))
+    let p = bound (owning_back (next_page eip) (l - front_len eip) s) (λ y. gives (begins.Insn i l)) x t e in (
+      same_value (begins.Insn i l) x p.1 t p.2.1,
+      ap (λ (q : Space). q.visited) (sym (same_space (begins.Insn i l) x p.1 t p.2.1))
+          ∙ back_went (next_page eip) (l - front_len eip) s p.1 p.0 p.2.0,
+    )
+owned_parts eip begins.Outside s t x e =
+    (same_value begins.Outside x s t e, ap (λ (q : Space). q.visited) (sym (same_space begins.Outside x s t e)))
+owned_parts eip begins.Short s t x e =
+    (same_value begins.Short x s t e, ap (λ (q : Space). q.visited) (sym (same_space begins.Short x s t e)))
 
 -- the second page
 pub record IsOn (user : Bool) (eip : ℕ) (insn : Insn) (len : ℕ) (front : List ℕ) (s t : Space) : Type 0 where
@@ -176,11 +200,14 @@ pub record IsOn (user : Bool) (eip : ℕ) (insn : Insn) (len : ℕ) (front : Lis
   pub ends : owned eip (decoded (front ++ more)) after ≡ Ok (begins.Insn insn len, t)
   pub visited : t.visited ≡ s.visited ++ (next_page eip / 4096) ∷ []
 
-on_parts : (user : Bool) (eip : ℕ) (insn : Insn) (len : ℕ) (front : List ℕ) (s t : Space) → fetched_on user eip front s ≡ Ok (begins.Insn insn len, t) → IsOn user eip insn len front s t
+on_parts : (user : Bool) (eip : ℕ) (insn : Insn) (len : ℕ) (front : List ℕ) (s t : Space)
+    → fetched_on user eip front s ≡ Ok (begins.Insn insn len, t) → IsOn user eip insn len front s t
 unfolding fetched_on
 on_parts user eip insn len front s t e =
-    let p = bound (owning_front eip (front_len eip) s) (λ x. fetching user (next_page eip) longest >>= (λ more. owned eip (decoded (front ++ more)))) (begins.Insn insn len) t e in
-    let q = bound (fetching user (next_page eip) longest p.1) (λ more. owned eip (decoded (front ++ more))) (begins.Insn insn len) t p.2.1 in
+    let p = bound (owning_front eip (front_len eip) s)
+    (λ x. fetching user (next_page eip) longest >>= (λ more. owned eip (decoded (front ++ more)))) (begins.Insn insn len) t e in
+    let q =
+    bound (fetching user (next_page eip) longest p.1) (λ more. owned eip (decoded (front ++ more))) (begins.Insn insn len) t p.2.1 in
     let o = owned_parts eip (decoded (front ++ q.0)) q.1 t (begins.Insn insn len) q.2.1 in
     record {
       more = q.0;
@@ -190,7 +217,8 @@ on_parts user eip insn len front s t e =
       reads = q.2.0;
       is = o.0;
       ends = q.2.1;
-      visited = o.1 ∙ fetching_went user (next_page eip) longest p.1 q.0 q.1 q.2.0 ∙ ap (λ (x : List ℕ). x ++ (next_page eip / 4096) ∷ []) (front_went eip (front_len eip) s p.1 p.0 p.2.0);
+      visited = o.1 ∙ fetching_went user (next_page eip) longest p.1 q.0 q.1 q.2.0 ∙ ap (λ (x : List ℕ). x ++ (next_page eip / 4096) ∷ [])
+          (front_went eip (front_len eip) s p.1 p.0 p.2.0);
     }
 
 -- the fetch ended in the first page
@@ -205,7 +233,8 @@ pub record IsPast (user : Bool) (eip : ℕ) (insn : Insn) (len : ℕ) (front : L
   pub not_last : (eip / 4096 == 1048575) ≡ false
   pub on : IsOn user eip insn len front s t
 
-pub by_parts : (user : Bool) (eip : ℕ) (insn : Insn) (len : ℕ) (front : List ℕ) (s t : Space) (d : Decoded) → decoded front ≡ d → fetched_by user eip front d s ≡ Ok (begins.Insn insn len, t)
+pub by_parts : (user : Bool) (eip : ℕ) (insn : Insn) (len : ℕ) (front : List ℕ) (s t : Space) (d : Decoded) → decoded front ≡ d
+    → fetched_by user eip front d s ≡ Ok (begins.Insn insn len, t)
     → IsIn eip insn len front s t ⊎ IsPast user eip insn len front s t
 by_parts user eip insn len front s t (begins.Insn i l) is e =
     let p = bound (owning_front eip l s) (λ x. gives (begins.Insn i l)) (begins.Insn insn len) t e in
@@ -217,9 +246,11 @@ by_parts user eip insn len front s t (begins.Insn i l) is e =
       owns = ap (λ n. owning_front eip n s) (sym long) ∙ p.2.0 ∙ ap (λ (x : Space). Ok (tt, x)) left;
       visited = ap (λ (x : Space). x.visited) (sym left) ∙ front_went eip l s p.1 p.0 p.2.0;
     })
-by_parts user eip insn len front s t begins.Outside is e = absurd (let f : begins.Outside ≡ begins.Insn insn len = same_value begins.Outside (begins.Insn insn len) s t e in cc)
+by_parts user eip insn len front s t begins.Outside is e =
+    absurd (let f : begins.Outside ≡ begins.Insn insn len = same_value begins.Outside (begins.Insn insn len) s t e in cc)
 by_parts user eip insn len front s t begins.Short is e = inr (short (eip / 4096 == 1048575) refl e)
   where
-    short : (last : Bool) → (eip / 4096 == 1048575) ≡ last → cond last (refuses (refusal.Stop stops.WrapAccess)) (fetched_on user eip front) s ≡ Ok (begins.Insn insn len, t) → IsPast user eip insn len front s t
+    short : (last : Bool) → (eip / 4096 == 1048575) ≡ last → cond last (refuses (refusal.Stop stops.WrapAccess)) (fetched_on user eip front)
+        s ≡ Ok (begins.Insn insn len, t) → IsPast user eip insn len front s t
     short true x f = absurd cc
     short false x f = record { cut = is; not_last = x; on = on_parts user eip insn len front s t f }

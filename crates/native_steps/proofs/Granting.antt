@@ -46,14 +46,17 @@ use Rattle.native_steps.proofs.Repeated as again
 
 -- ---- where a page that isn't barred may lead
 
-open_of : (image : Image) (fetch kernel : Bool) (page frame : ℕ) → is_barred (wedge_mode image) fetch (not kernel) page frame ≡ false → (kernel ≡ true → fetch ≡ false → 0x11000 ≤ page) → IsOpen kernel image page frame
+open_of : (image : Image) (fetch kernel : Bool) (page frame : ℕ) → is_barred (wedge_mode image) fetch (not kernel) page frame ≡ false
+    → (kernel ≡ true → fetch ≡ false → 0x11000 ≤ page) → IsOpen kernel image page frame
 open_of image false false page frame e above = e
 open_of image true false page frame e above = e
 open_of image false true page frame e above = inr (above refl refl, e)
 open_of image true true page frame e above = inl (not-false (is_given (wedge_mode image) page frame) e)
 
-granted : (image : Image) (kernel wp : Bool) (s : Space) (write fetch : Bool) (page frame : ℕ) → HasEntry kernel wp s.set write page frame → is_barred (wedge_mode image) fetch (not kernel) page frame ≡ false
-    → (kernel ≡ true → fetch ≡ false → 0x11000 ≤ page) → (write ≡ true → Contains s.wrote frame) → Contains s.visited page → IsGranted image kernel wp s write page
+granted : (image : Image) (kernel wp : Bool) (s : Space) (write fetch : Bool) (page frame : ℕ) → HasEntry kernel wp s.set write page frame
+    → is_barred (wedge_mode image) fetch (not kernel) page frame ≡ false
+    → (kernel ≡ true → fetch ≡ false → 0x11000 ≤ page) → (write ≡ true → Contains s.wrote frame) → Contains s.visited page
+    → IsGranted image kernel wp s write page
 granted image kernel wp s write fetch page frame h free above told through = record {
   entry = h.entry;
   kept = h.kept;
@@ -77,7 +80,8 @@ no_more y c = let lt = c.1 in omega (arith, lt)
 
 -- ---- the frames of a range for a write
 
-frame_is : (kernel wp : Bool) (set : FinMap nat_cmp Entry) (write : Bool) (page frame : ℕ) → HasEntry kernel wp set write page frame → frame_by (get set page) ≡ frame
+frame_is : (kernel wp : Bool) (set : FinMap nat_cmp Entry) (write : Bool) (page frame : ℕ) → HasEntry kernel wp set write page frame
+    → frame_by (get set page) ≡ frame
 frame_is kernel wp set write page frame h = ap frame_by h.kept ∙ h.frame_is
 
 first_noted : (s : Space) (at len frame : ℕ) → frame_by (get s.set (at / 4096)) ≡ frame → Contains (frames_of s at len) frame
@@ -86,7 +90,8 @@ first_noted s at len frame e = (0, omega arith, e)
 last_noted : (s : Space) (at len frame : ℕ) → frame_by (get s.set ((at + len - 1) / 4096)) ≡ frame → Contains (frames_of s at len) frame
 last_noted s at len frame e = choice ((at + len - 1) / 4096 == at / 4096) refl
   where
-    choice : (one : Bool) → ((at + len - 1) / 4096 == at / 4096) ≡ one → Contains (frame_by (get s.set (at / 4096)) ∷ cond one [] (frame_by (get s.set ((at + len - 1) / 4096)) ∷ [])) frame
+    choice : (one : Bool) → ((at + len - 1) / 4096 == at / 4096) ≡ one
+        → Contains (frame_by (get s.set (at / 4096)) ∷ cond one [] (frame_by (get s.set ((at + len - 1) / 4096)) ∷ [])) frame
     choice true is = (0, omega arith, ap (λ p. frame_by (get s.set p)) (sym (eqb-true ((at + len - 1) / 4096) (at / 4096) is)) ∙ e)
     choice false is = (1, omega arith, e)
 
@@ -95,32 +100,44 @@ noted s at len frame w c = subst (λ (l : List ℕ). Contains l frame) (sym w.is
 
 -- ---- the pages of a range
 
-by_one : (one : Bool) (visited : List ℕ) (first last q : ℕ) → Contains (visited ++ first ∷ []) q → Contains (cond one (visited ++ first ∷ []) ((visited ++ first ∷ []) ++ last ∷ [])) q
+by_one : (one : Bool) (visited : List ℕ) (first last q : ℕ) → Contains (visited ++ first ∷ []) q
+    → Contains (cond one (visited ++ first ∷ []) ((visited ++ first ∷ []) ++ last ∷ [])) q
 by_one true visited first last q c = c
 by_one false visited first last q c = Contains-append_left (visited ++ first ∷ []) (last ∷ []) q c
 
 goes_on : (visited : List ℕ) (at len q : ℕ) → Contains visited q → Contains (went_by visited at len) q
 unfolding went_by
-goes_on visited at len q c = by_one ((at + len - 1) / 4096 == at / 4096) visited (at / 4096) ((at + len - 1) / 4096) q (Contains-append_left visited ((at / 4096) ∷ []) q c)
+goes_on visited at len q c = by_one ((at + len - 1) / 4096 == at / 4096) visited (at / 4096) ((at + len - 1) / 4096) q
+    (Contains-append_left visited ((at / 4096) ∷ []) q c)
 
 first_in : (visited : List ℕ) (at len : ℕ) → Contains (went_by visited at len) (at / 4096)
 unfolding went_by
-first_in visited at len = by_one ((at + len - 1) / 4096 == at / 4096) visited (at / 4096) ((at + len - 1) / 4096) (at / 4096) (Contains-push visited (at / 4096))
+first_in visited at len =
+    by_one ((at + len - 1) / 4096 == at / 4096) visited (at / 4096) ((at + len - 1) / 4096) (at / 4096) (Contains-push visited (at / 4096))
 
 last_in : (visited : List ℕ) (at len : ℕ) → Contains (went_by visited at len) ((at + len - 1) / 4096)
 unfolding went_by
 last_in visited at len = choice ((at + len - 1) / 4096 == at / 4096) refl
   where
-    choice : (one : Bool) → ((at + len - 1) / 4096 == at / 4096) ≡ one → Contains (cond one (visited ++ (at / 4096) ∷ []) ((visited ++ (at / 4096) ∷ []) ++ ((at + len - 1) / 4096) ∷ [])) ((at + len - 1) / 4096)
-    choice true is = subst (Contains (visited ++ (at / 4096) ∷ [])) (sym (eqb-true ((at + len - 1) / 4096) (at / 4096) is)) (Contains-push visited (at / 4096))
+    choice : (one : Bool) → ((at + len - 1) / 4096 == at / 4096) ≡ one
+        → Contains (cond one (visited ++ (at / 4096) ∷ []) ((visited ++ (at / 4096) ∷ []) ++ ((at + len - 1) / 4096) ∷ []))
+        ((at + len - 1) / 4096)
+    choice true is = subst (Contains (visited ++ (at / 4096) ∷ [])) (sym (eqb-true ((at + len - 1) / 4096) (at / 4096) is))
+        (Contains-push visited (at / 4096))
     choice false is = Contains-push (visited ++ (at / 4096) ∷ []) ((at + len - 1) / 4096)
 
-still_in : (cpu : Cpu) (s t : Space) (write : Bool) (o : Option Range) (q : ℕ) → reached cpu write o s ≡ Ok (tt, t) → Contains s.visited q → Contains t.visited q
-still_in cpu s t write None q e c = let p : ◌≡◌ {A = Unit {0} × Space} (tt, s) (tt, t) = cc in subst (λ (x : Space). Contains x.visited q) (ap (λ (y : Unit {0} × Space). y.1) p) c
-still_in cpu s t write (Some r) q e c = subst (λ (l : List ℕ). Contains l q) (sym (range_went s t r.at r.len (record { write = write; user = cpu.cpl == 3 }) e)) (goes_on s.visited r.at r.len q c)
+still_in : (cpu : Cpu) (s t : Space) (write : Bool) (o : Option Range) (q : ℕ) → reached cpu write o s ≡ Ok (tt, t) → Contains s.visited q
+    → Contains t.visited q
+still_in cpu s t write None q e c = let p : ◌≡◌ {A = Unit {0} × Space} (tt, s) (tt, t) =
+    cc in subst (λ (x : Space). Contains x.visited q) (ap (λ (y : Unit {0} × Space). y.1) p) c
+still_in cpu s t write (Some r) q e c = subst (λ (l : List ℕ). Contains l q)
+    (sym (range_went s t r.at r.len (record { write = write; user = cpu.cpl == 3 }) e)) (goes_on s.visited r.at r.len q c)
 
-module _ (flags : EffectLaws) (m : Setting) (v : View) (b : State) (mode : m.mode ≡ wedge_mode m.image) (room : 4096 * m.frames ≤ length b.ram) (fit : AreBytes b.ram) (sound : AreWithin m b.set) (sees : Sees v b.cpu) (next : IsNext m v.kernel b) (small : b.cpu.regs.eip < 2 ^ 32) where
-  module _ (insn : Insn) (len : ℕ) (fetch read write : Space) (t : IsTranslated m b insn len fetch read write) (clear : AreClear b.set (b.cpu.cpl == 3) (wp_of b.cpu) [] (uses_of fetch.visited (ranges_of insn b.cpu.regs))) where
+module _ (flags : EffectLaws) (m : Setting) (v : View) (b : State) (mode : m.mode ≡ wedge_mode m.image)
+    (room : 4096 * m.frames ≤ length b.ram) (fit : AreBytes b.ram) (sound : AreWithin m b.set) (sees : Sees v b.cpu)
+    (next : IsNext m v.kernel b) (small : b.cpu.regs.eip < 2 ^ 32) where
+  module _ (insn : Insn) (len : ℕ) (fetch read write : Space) (t : IsTranslated m b insn len fetch read write)
+      (clear : AreClear b.set (b.cpu.cpl == 3) (wp_of b.cpu) [] (uses_of fetch.visited (ranges_of insn b.cpu.regs))) where
     abbrev reads : Option Range
     reads = (ranges_of insn b.cpu.regs).read
 
@@ -136,23 +153,29 @@ module _ (flags : EffectLaws) (m : Setting) (v : View) (b : State) (mode : m.mod
     -- ---- the fetch
 
     fetched_page : (page frame : ℕ) → Fetches m (settled b write) v.kernel page frame → Contains write.visited page → Granted false page
-    fetched_page page frame f there = granted m.image v.kernel (wp_of b.cpu) write false true page frame f.entry f.free (λ k e. absurd (let g : true ≡ false = e in cc)) (λ e. absurd (let g : false ≡ true = e in cc)) there
+    fetched_page page frame f there = granted m.image v.kernel (wp_of b.cpu) write false true page frame f.entry f.free
+        (λ k e. absurd (let g : true ≡ false = e in cc)) (λ e. absurd (let g : false ≡ true = e in cc)) there
 
     next_is : next_page b.cpu.regs.eip / 4096 ≡ b.cpu.regs.eip / 4096 + 1
     next_is = omega arith
 
-    by_way : (y : Way (Fetches m (settled b write) v.kernel) write.ram b.cpu.regs.eip insn len) (page : ℕ) → Contains (went_of b.cpu.regs.eip y) page → Contains write.visited page → Granted false page
+    by_way : (y : Way (Fetches m (settled b write) v.kernel) write.ram b.cpu.regs.eip insn len) (page : ℕ)
+        → Contains (went_of b.cpu.regs.eip y) page → Contains write.visited page → Granted false page
     by_way (inl w) page c there =
         elim (head_cases (b.cpu.regs.eip / 4096) [] page c) [
-          | inl e ↦ subst (Granted false) e (fetched_page (b.cpu.regs.eip / 4096) w.frame w.page (subst (Contains write.visited) (sym e) there))
+          | inl e ↦ subst (Granted false) e
+              (fetched_page (b.cpu.regs.eip / 4096) w.frame w.page (subst (Contains write.visited) (sym e) there))
           | inr none ↦ absurd (no_more page none)
         ]
     by_way (inr w) page c there =
         elim (head_cases (b.cpu.regs.eip / 4096) ((next_page b.cpu.regs.eip / 4096) ∷ []) page c) [
-          | inl e ↦ subst (Granted false) e (fetched_page (b.cpu.regs.eip / 4096) w.frame w.page (subst (Contains write.visited) (sym e) there))
+          | inl e ↦ subst (Granted false) e
+              (fetched_page (b.cpu.regs.eip / 4096) w.frame w.page (subst (Contains write.visited) (sym e) there))
           | inr d ↦
               elim (head_cases (next_page b.cpu.regs.eip / 4096) [] page d) [
-                | inl e ↦ subst (Granted false) (sym next_is ∙ e) (fetched_page (b.cpu.regs.eip / 4096 + 1) w.next w.next_page (subst (Contains write.visited) (sym (sym next_is ∙ e)) there))
+                | inl e ↦ subst (Granted false) (sym next_is ∙ e)
+                    (fetched_page (b.cpu.regs.eip / 4096 + 1) w.next w.next_page
+                    (subst (Contains write.visited) (sym (sym next_is ∙ e)) there))
                 | inr none ↦ absurd (no_more page none)
               ]
         ]
@@ -164,29 +187,41 @@ module _ (flags : EffectLaws) (m : Setting) (v : View) (b : State) (mode : m.mod
     fetch_granted page c =
         let way = first.way write (again.whole flags m v b mode room fit sound sees next small insn len fetch read write t clear) in
         let pages = first.way_pages write (again.whole flags m v b mode room fit sound sees next small insn len fetch read write t clear) in
-        by_way way page (subst (λ (l : List ℕ). Contains l page) (first.visited ∙ sym pages) c) (still_in b.cpu read write true writes page t.write (still_in b.cpu fetch read false reads page t.read c))
+        by_way way page (subst (λ (l : List ℕ). Contains l page) (first.visited ∙ sym pages) c)
+        (still_in b.cpu read write true writes page t.write (still_in b.cpu fetch read false reads page t.read c))
 
     -- ---- ranges
 
-    range_granted : (w : Bool) (r : Range) → 1 ≤ r.len → again.HasRange flags m v b mode room fit sound sees next small write w r → (w ≡ true → Wrote r.at r.len write) → Contains write.visited (r.at / 4096) → Contains write.visited ((r.at + r.len - 1) / 4096) → IsRangeGranted m.image v.kernel (wp_of b.cpu) write w (Some r)
+    range_granted : (w : Bool) (r : Range) → 1 ≤ r.len → again.HasRange flags m v b mode room fit sound sees next small write w r
+        → (w ≡ true → Wrote r.at r.len write) → Contains write.visited (r.at / 4096) → Contains write.visited ((r.at + r.len - 1) / 4096)
+        → IsRangeGranted m.image v.kernel (wp_of b.cpu) write w (Some r)
     range_granted w r some h wrote there last_there = (
-      granted m.image v.kernel (wp_of b.cpu) write w false (r.at / 4096) h.first h.has_first h.free_first (λ k e. let a = h.above k in omega (arith, a))
-          (λ e. noted write r.at r.len h.first (wrote e) (first_noted write r.at r.len h.first (frame_is v.kernel (wp_of b.cpu) write.set w (r.at / 4096) h.first h.has_first))) there,
+      granted m.image v.kernel (wp_of b.cpu) write w false (r.at / 4096) h.first h.has_first h.free_first
+          (λ k e. let a = h.above k in omega (arith, a))
+          (λ e. noted write r.at r.len h.first (wrote e)
+          (first_noted write r.at r.len h.first (frame_is v.kernel (wp_of b.cpu) write.set w (r.at / 4096) h.first h.has_first))) there,
       subst (Granted w) (again.last_is flags m v b mode room fit sound sees next small r some)
-          (granted m.image v.kernel (wp_of b.cpu) write w false ((r.at + r.len - 1) / 4096) h.last_frame h.has_last h.free_last (λ k e. let a = h.above k in omega (arith, a, some))
-          (λ e. noted write r.at r.len h.last_frame (wrote e) (last_noted write r.at r.len h.last_frame (frame_is v.kernel (wp_of b.cpu) write.set w ((r.at + r.len - 1) / 4096) h.last_frame h.has_last))) last_there),
+          (granted m.image v.kernel (wp_of b.cpu) write w false ((r.at + r.len - 1) / 4096) h.last_frame h.has_last h.free_last
+          (λ k e. let a = h.above k in omega (arith, a, some))
+          (λ e. noted write r.at r.len h.last_frame (wrote e)
+          (last_noted write r.at r.len h.last_frame
+          (frame_is v.kernel (wp_of b.cpu) write.set w ((r.at + r.len - 1) / 4096) h.last_frame h.has_last))) last_there),
     )
 
-    read_granted : (o : Option Range) → IsShort o → again.HasRanges flags m v b mode room fit sound sees next small write false o → reached b.cpu false o fetch ≡ Ok (tt, read) → IsRangeGranted m.image v.kernel (wp_of b.cpu) write false o
+    read_granted : (o : Option Range) → IsShort o → again.HasRanges flags m v b mode room fit sound sees next small write false o
+        → reached b.cpu false o fetch ≡ Ok (tt, read) → IsRangeGranted m.image v.kernel (wp_of b.cpu) write false o
     unfolding again.HasRanges
     read_granted None short h e = tt
     read_granted (Some r) short h e =
         let visited = range_went fetch read r.at r.len (record { write = false; user = b.cpu.cpl == 3 }) e in
         range_granted false r short.0 h (λ x. absurd (let g : false ≡ true = x in cc))
-        (still_in b.cpu read write true writes (r.at / 4096) t.write (subst (λ (l : List ℕ). Contains l (r.at / 4096)) (sym visited) (first_in fetch.visited r.at r.len)))
-        (still_in b.cpu read write true writes ((r.at + r.len - 1) / 4096) t.write (subst (λ (l : List ℕ). Contains l ((r.at + r.len - 1) / 4096)) (sym visited) (last_in fetch.visited r.at r.len)))
+        (still_in b.cpu read write true writes (r.at / 4096) t.write
+        (subst (λ (l : List ℕ). Contains l (r.at / 4096)) (sym visited) (first_in fetch.visited r.at r.len)))
+        (still_in b.cpu read write true writes ((r.at + r.len - 1) / 4096) t.write
+        (subst (λ (l : List ℕ). Contains l ((r.at + r.len - 1) / 4096)) (sym visited) (last_in fetch.visited r.at r.len)))
 
-    write_granted : (o : Option Range) → IsShort o → again.HasRanges flags m v b mode room fit sound sees next small write true o → reached b.cpu true o read ≡ Ok (tt, write) → IsRangeGranted m.image v.kernel (wp_of b.cpu) write true o
+    write_granted : (o : Option Range) → IsShort o → again.HasRanges flags m v b mode room fit sound sees next small write true o
+        → reached b.cpu true o read ≡ Ok (tt, write) → IsRangeGranted m.image v.kernel (wp_of b.cpu) write true o
     unfolding again.HasRanges
     write_granted None short h e = tt
     write_granted (Some r) short h e =
@@ -201,22 +236,29 @@ module _ (flags : EffectLaws) (m : Setting) (v : View) (b : State) (mode : m.mod
     all_granted : AreGranted m.image v.kernel (wp_of b.cpu) write fetch.visited (ranges_of insn b.cpu.regs)
     all_granted = record {
       fetch = fetch_granted;
-      read = read_granted reads short.0 (again.read_end flags m v b mode room fit sound sees next small insn len fetch read write t clear) t.read;
-      write = write_granted writes short.1 (again.write_end flags m v b mode room fit sound sees next small insn len fetch read write t clear) t.write;
+      read = read_granted reads short.0 (again.read_end flags m v b mode room fit sound sees next small insn len fetch read write t clear)
+          t.read;
+      write =
+          write_granted writes short.1 (again.write_end flags m v b mode room fit sound sees next small insn len fetch read write t clear)
+          t.write;
     }
 
     -- ---- the effect
 
-    earlier_same : (x : ℕ) (set : FinMap nat_cmp Entry) → set ≡ read.set → byte_at (record write { set = set }) x ≡ byte_at (with_ram read write.ram) x
+    earlier_same : (x : ℕ) (set : FinMap nat_cmp Entry) → set ≡ read.set → byte_at (record write { set = set }) x ≡ byte_at
+        (with_ram read write.ram) x
     unfolding byte_at place
     earlier_same x set e = ap (λ (y : FinMap nat_cmp Entry). byte write.ram (place_by (get y (x / 4096)) x)) e
 
     same_unread : (x : ℕ) → read ≡ write → byte_at write x ≡ byte_at (with_ram read write.ram) x
     same_unread x e = ap (λ (s : Space). byte_at (with_ram s write.ram) x) (sym e)
 
-    as_read_same : (o : Option Range) (x : ℕ) → reached b.cpu true o read ≡ Ok (tt, write) → byte_at (divided.as_read o write) x ≡ byte_at (with_ram read write.ram) x
-    as_read_same None x e = let p : ◌≡◌ {A = Unit {0} × Space} (tt, read) (tt, write) = cc in same_unread x (ap (λ (q : Unit {0} × Space). q.1) p)
-    as_read_same (Some r) x e = earlier_same x write.earlier.set (reaching_earlier read write r.at r.len (record { write = true; user = b.cpu.cpl == 3 }) e)
+    as_read_same : (o : Option Range) (x : ℕ) → reached b.cpu true o read ≡ Ok (tt, write)
+        → byte_at (divided.as_read o write) x ≡ byte_at (with_ram read write.ram) x
+    as_read_same None x e = let p : ◌≡◌ {A = Unit {0} × Space} (tt, read) (tt, write) =
+        cc in same_unread x (ap (λ (q : Unit {0} × Space). q.1) p)
+    as_read_same (Some r) x e =
+        earlier_same x write.earlier.set (reaching_earlier read write r.at r.len (record { write = true; user = b.cpu.cpl == 3 }) e)
 
     ready_bytes : (x : ℕ) → divided.byte_of (ranges_of insn b.cpu.regs) write x ≡ byte_of (settled b write) x
     ready_bytes x =
@@ -226,12 +268,16 @@ module _ (flags : EffectLaws) (m : Setting) (v : View) (b : State) (mode : m.mod
     selectors_same : users.selectors_of b.cpu ≡ selectors_of v
     selectors_same = λ i. record { es = sym sees.es i; cs = sym sees.cs i; ss = sym sees.ss i; ds = sym sees.ds i }
 
-    effect_same : user_effect (users.selectors_of b.cpu) insn len b.cpu.regs (divided.byte_of (ranges_of insn b.cpu.regs) write) ≡ effect_of v (settled b write) insn len
+    effect_same : user_effect (users.selectors_of b.cpu) insn len b.cpu.regs (divided.byte_of (ranges_of insn b.cpu.regs) write) ≡ effect_of
+        v (settled b write) insn len
     effect_same =
         ap (λ (g : Selectors). user_effect g insn len b.cpu.regs (divided.byte_of (ranges_of insn b.cpu.regs) write)) selectors_same
-        ∙ flags.same (divided.byte_of (ranges_of insn b.cpu.regs) write) (byte_of (settled b write)) (selectors_of v) insn len b.cpu.regs first.shape
-        (again.all flags m v b mode room fit sound sees next small insn len fetch read write t clear (λ x. divided.byte_of (ranges_of insn b.cpu.regs) write x ≡ byte_of (settled b write) x) reads ready_bytes)
-        (again.all flags m v b mode room fit sound sees next small insn len fetch read write t clear (λ x. divided.byte_of (ranges_of insn b.cpu.regs) write x ≡ byte_of (settled b write) x) writes ready_bytes)
+        ∙ flags.same (divided.byte_of (ranges_of insn b.cpu.regs) write) (byte_of (settled b write)) (selectors_of v) insn len
+        b.cpu.regs first.shape
+        (again.all flags m v b mode room fit sound sees next small insn len fetch read write t clear
+        (λ x. divided.byte_of (ranges_of insn b.cpu.regs) write x ≡ byte_of (settled b write) x) reads ready_bytes)
+        (again.all flags m v b mode room fit sound sees next small insn len fetch read write t clear
+        (λ x. divided.byte_of (ranges_of insn b.cpu.regs) write x ≡ byte_of (settled b write) x) writes ready_bytes)
 
     pub leaves : Leaves m v b insn len fetch write
     leaves = record {

@@ -45,13 +45,18 @@ module _ (memory : List ℕ) (root : ℕ) where
   Leads write page frame = reached_by write (walked memory root page) ≡ Some frame
 
   -- within the address space that is the tables' frame
-  leads_so : (page : ℕ) → page < 2 ^ 20 → (write : Bool) → reached_by write (walked memory root page) ≡ reached memory (length memory / 4096) root page write
-  leads_so page lt write = ap (reached_by write) (cond-true (nat_lt page 1048576) (fresh memory (length memory / 4096) (4096 * root) false page) Absent (lt-ltb page 1048576 lt))
+  leads_so : (page : ℕ) → page < 2 ^ 20 → (write : Bool) → reached_by write (walked memory root page) ≡ reached memory
+      (length memory / 4096) root page write
+  leads_so page lt write =
+      ap (reached_by write) (cond-true (nat_lt page 1048576) (fresh memory (length memory / 4096) (4096 * root) false page) Absent
+      (lt-ltb page 1048576 lt))
 
-  pub leads_told : (page : ℕ) → page < 2 ^ 20 → (write : Bool) (frame : ℕ) → Leads write page frame → reached memory (length memory / 4096) root page write ≡ Some frame
+  pub leads_told : (page : ℕ) → page < 2 ^ 20 → (write : Bool) (frame : ℕ) → Leads write page frame
+      → reached memory (length memory / 4096) root page write ≡ Some frame
   leads_told page lt write frame e = sym (leads_so page lt write) ∙ e
 
-  pub leads_from : (page : ℕ) → page < 2 ^ 20 → (write : Bool) (frame : ℕ) → reached memory (length memory / 4096) root page write ≡ Some frame → Leads write page frame
+  pub leads_from : (page : ℕ) → page < 2 ^ 20 → (write : Bool) (frame : ℕ) → reached memory (length memory / 4096) root page write ≡ Some
+      frame → Leads write page frame
   leads_from page lt write frame e = leads_so page lt write ∙ e
 
   pub page_leads : (write : Bool) (at frame : ℕ) → page_met memory root write at ≡ Ok frame → Leads write (at / 4096) frame
@@ -65,11 +70,14 @@ module _ (memory : List ℕ) (root : ℕ) where
 
   -- ---- the fetch
 
-  fetching_is : (at len frame : ℕ) → Leads false (at / 4096) frame → fetching memory root at len ≡ Ok (part memory (4096 * frame + at % 4096) len)
+  fetching_is : (at len frame : ℕ) → Leads false (at / 4096) frame
+      → fetching memory root at len ≡ Ok (part memory (4096 * frame + at % 4096) len)
   unfolding fetching
-  fetching_is at len frame e = after (page_met memory root false at) (λ f. gives (part memory (4096 * f + at % 4096) len)) frame _ (page_is false at frame e) refl
+  fetching_is at len frame e =
+      after (page_met memory root false at) (λ f. gives (part memory (4096 * f + at % 4096) len)) frame _ (page_is false at frame e) refl
 
-  fetching_parts : (at len : ℕ) (bytes : List ℕ) → fetching memory root at len ≡ Ok bytes → (frame : ℕ) × (Leads false (at / 4096) frame × (part memory (4096 * frame + at % 4096) len ≡ bytes))
+  fetching_parts : (at len : ℕ) (bytes : List ℕ) → fetching memory root at len ≡ Ok bytes → (frame : ℕ)
+      × (Leads false (at / 4096) frame × (part memory (4096 * frame + at % 4096) len ≡ bytes))
   unfolding fetching
   fetching_parts at len bytes e =
       let p = bound (page_met memory root false at) (λ f. gives (part memory (4096 * f + at % 4096) len)) bytes e in
@@ -85,7 +93,8 @@ module _ (memory : List ℕ) (root : ℕ) where
   next_place : (eip frame : ℕ) → 4096 * frame + next_at eip % 4096 ≡ 4096 * frame
   next_place eip frame = omega arith
 
-  on_parts : (eip : ℕ) (front : List ℕ) (d : Decoded) → fetched_on memory root eip front ≡ Ok d → (frame : ℕ) × (Leads false (eip / 4096 + 1) frame × (decoded (front ++ back_at memory frame) ≡ d))
+  on_parts : (eip : ℕ) (front : List ℕ) (d : Decoded) → fetched_on memory root eip front ≡ Ok d → (frame : ℕ)
+      × (Leads false (eip / 4096 + 1) frame × (decoded (front ++ back_at memory frame) ≡ d))
   unfolding fetched_on
   on_parts eip front d e =
       let p = bound (fetching memory root (next_at eip) longest) (λ more. gives (decoded (front ++ more))) d e in
@@ -94,14 +103,17 @@ module _ (memory : List ℕ) (root : ℕ) where
       let is : decoded (front ++ p.0) ≡ d = let g = p.1.1 in cc in
       (q.0, (subst (λ (x : ℕ). Leads false x q.0) (next_page_is eip) q.1.0, ap (λ x. decoded (front ++ x)) bytes ∙ is))
 
-  on_is : (eip frame : ℕ) (front : List ℕ) (d : Decoded) → Leads false (eip / 4096 + 1) frame → decoded (front ++ back_at memory frame) ≡ d → fetched_on memory root eip front ≡ Ok d
+  on_is : (eip frame : ℕ) (front : List ℕ) (d : Decoded) → Leads false (eip / 4096 + 1) frame → decoded (front ++ back_at memory frame) ≡ d
+      → fetched_on memory root eip front ≡ Ok d
   unfolding fetched_on
   on_is eip frame front d e g =
       after (fetching memory root (next_at eip) longest) (λ more. gives (decoded (front ++ more))) (back_at memory frame) (Ok d)
-      (fetching_is (next_at eip) longest frame (subst (λ (x : ℕ). Leads false x frame) (sym (next_page_is eip)) e) ∙ ap (λ x. Ok (part memory x longest)) (next_place eip frame))
+      (fetching_is (next_at eip) longest frame (subst (λ (x : ℕ). Leads false x frame) (sym (next_page_is eip)) e)
+      ∙ ap (λ x. Ok (part memory x longest)) (next_place eip frame))
       (ap Ok g)
 
-  by_parts : (eip frame : ℕ) (d : Decoded) (insn : Insn) (len : ℕ) → Leads false (eip / 4096) frame → decoded (front_at memory frame eip) ≡ d
+  by_parts : (eip frame : ℕ) (d : Decoded) (insn : Insn) (len : ℕ) → Leads false (eip / 4096) frame
+      → decoded (front_at memory frame eip) ≡ d
       → fetched_by memory root eip (front_at memory frame eip) d ≡ Ok (begins.Insn insn len) → Way (Leads false) memory eip insn len
   by_parts eip frame (begins.Insn i l) insn len leads is e =
       let same : begins.Insn i l ≡ begins.Insn insn len = cc in
@@ -109,26 +121,33 @@ module _ (memory : List ℕ) (root : ℕ) where
   by_parts eip frame begins.Outside insn len leads is e = absurd (let same : begins.Outside ≡ begins.Insn insn len = cc in cc)
   by_parts eip frame begins.Short insn len leads is e = inr (short (eip / 4096 == 1048575) refl e)
     where
-      short : (last : Bool) → (eip / 4096 == 1048575) ≡ last → cond last (Err exits.Wrap) (fetched_on memory root eip (front_at memory frame eip)) ≡ Ok (begins.Insn insn len) → IsAcross (Leads false) memory eip insn len
+      short : (last : Bool) → (eip / 4096 == 1048575) ≡ last
+          → cond last (Err exits.Wrap) (fetched_on memory root eip (front_at memory frame eip)) ≡ Ok (begins.Insn insn len)
+          → IsAcross (Leads false) memory eip insn len
       short true t f = absurd cc
       short false t f =
           let p = on_parts eip (front_at memory frame eip) (begins.Insn insn len) f in
           record { frame = frame; page = leads; cut = is; not_last = t; next = p.0; next_page = p.1.0; is = p.1.1 }
 
-  pub fetch_parts : (eip : ℕ) (insn : Insn) (len : ℕ) → fetched memory root eip ≡ Ok (begins.Insn insn len) → Way (Leads false) memory eip insn len
+  pub fetch_parts : (eip : ℕ) (insn : Insn) (len : ℕ) → fetched memory root eip ≡ Ok (begins.Insn insn len)
+      → Way (Leads false) memory eip insn len
   unfolding fetched
   fetch_parts eip insn len e =
-      let p = bound (fetching memory root eip (front_len eip)) (λ front. fetched_by memory root eip front (decoded front)) (begins.Insn insn len) e in
+      let p = bound (fetching memory root eip (front_len eip)) (λ front. fetched_by memory root eip front (decoded front))
+      (begins.Insn insn len) e in
       let q = fetching_parts eip (front_len eip) p.0 p.1.0 in
       by_parts eip q.0 (decoded (front_at memory q.0 eip)) insn len q.1.0 refl
       (ap (λ x. fetched_by memory root eip x (decoded x)) q.1.1 ∙ p.1.1)
 
-  fetched_from : (eip frame : ℕ) (y : Met Decoded) → Leads false (eip / 4096) frame → fetched_by memory root eip (front_at memory frame eip) (decoded (front_at memory frame eip)) ≡ y → fetched memory root eip ≡ y
+  fetched_from : (eip frame : ℕ) (y : Met Decoded) → Leads false (eip / 4096) frame → fetched_by memory root eip (front_at memory frame eip)
+      (decoded (front_at memory frame eip)) ≡ y → fetched memory root eip ≡ y
   unfolding fetched
   fetched_from eip frame y leads e =
-      after (fetching memory root eip (front_len eip)) (λ front. fetched_by memory root eip front (decoded front)) (front_at memory frame eip) y (fetching_is eip (front_len eip) frame leads) e
+      after (fetching memory root eip (front_len eip)) (λ front. fetched_by memory root eip front (decoded front))
+      (front_at memory frame eip) y (fetching_is eip (front_len eip) frame leads) e
 
-  pub fetch_is : (eip : ℕ) (insn : Insn) (len : ℕ) → Way (Leads false) memory eip insn len → fetched memory root eip ≡ Ok (begins.Insn insn len)
+  pub fetch_is : (eip : ℕ) (insn : Insn) (len : ℕ) → Way (Leads false) memory eip insn len
+      → fetched memory root eip ≡ Ok (begins.Insn insn len)
   fetch_is eip insn len (inl w) =
       fetched_from eip w.frame (Ok (begins.Insn insn len)) w.page (ap (fetched_by memory root eip (front_at memory w.frame eip)) w.is)
   fetch_is eip insn len (inr w) =
@@ -156,37 +175,51 @@ module _ (memory : List ℕ) (v : View) where
   back : (p : ℕ) → p * 4096 / 4096 ≡ p
   back p = omega arith
 
-  pages_parts : (write : Bool) (r : Range) (x : ℕ × ℕ) → pages_met memory v.root write r ≡ Ok x → (first last : ℕ) × (Leads memory v.root write (r.at / 4096) first × Leads memory v.root write (last_page r) last)
+  pages_parts : (write : Bool) (r : Range) (x : ℕ × ℕ) → pages_met memory v.root write r ≡ Ok x → (first last : ℕ)
+      × (Leads memory v.root write (r.at / 4096) first × Leads memory v.root write (last_page r) last)
   unfolding pages_met
   pages_parts write r x e =
-      let p = bound (page_met memory v.root write r.at) (λ (f : ℕ). cond (last_page r == r.at / 4096) (Ok f) (page_met memory v.root write (last_page r * 4096)) >>= (λ (l : ℕ). Ok (f, l))) x e in
-      let q = bound (cond (last_page r == r.at / 4096) (Ok p.0) (page_met memory v.root write (last_page r * 4096))) (λ (l : ℕ). Ok (p.0, l)) x p.1.1 in
+      let p = bound (page_met memory v.root write r.at)
+      (λ (f : ℕ). cond (last_page r == r.at / 4096) (Ok f) (page_met memory v.root write (last_page r * 4096)) >>= (λ (l : ℕ). Ok (f, l))) x
+      e in
+      let q = bound (cond (last_page r == r.at / 4096) (Ok p.0) (page_met memory v.root write (last_page r * 4096)))
+      (λ (l : ℕ). Ok (p.0, l)) x p.1.1 in
       let front = page_leads memory v.root write r.at p.0 p.1.0 in
       (p.0, q.0, (front, second (last_page r == r.at / 4096) refl q.0 p.0 front q.1.0))
     where
-      second : (one : Bool) → (last_page r == r.at / 4096) ≡ one → (l f : ℕ) → Leads memory v.root write (r.at / 4096) f → cond one (Ok f) (page_met memory v.root write (last_page r * 4096)) ≡ Ok l → Leads memory v.root write (last_page r) l
+      second : (one : Bool) → (last_page r == r.at / 4096) ≡ one → (l f : ℕ) → Leads memory v.root write (r.at / 4096) f
+          → cond one (Ok f) (page_met memory v.root write (last_page r * 4096)) ≡ Ok l → Leads memory v.root write (last_page r) l
       second true t l f front g =
           let same : f ≡ l = cc in
           subst (λ (p : ℕ). Leads memory v.root write p l) (sym (eqb-true (last_page r) (r.at / 4096) t)) (front ∙ ap Some same)
-      second false t l f front g = subst (λ (p : ℕ). Leads memory v.root write p l) (back (last_page r)) (page_leads memory v.root write (last_page r * 4096) l g)
+      second false t l f front g =
+          subst (λ (p : ℕ). Leads memory v.root write p l) (back (last_page r)) (page_leads memory v.root write (last_page r * 4096) l g)
 
-  pages_are : (write : Bool) (r : Range) (first last : ℕ) → Leads memory v.root write (r.at / 4096) first → Leads memory v.root write (last_page r) last → (x : ℕ × ℕ) × (pages_met memory v.root write r ≡ Ok x)
+  pages_are : (write : Bool) (r : Range) (first last : ℕ) → Leads memory v.root write (r.at / 4096) first
+      → Leads memory v.root write (last_page r) last → (x : ℕ × ℕ) × (pages_met memory v.root write r ≡ Ok x)
   unfolding pages_met
   pages_are write r first last e g =
       let s = second (last_page r == r.at / 4096) in (
         (first, s.0),
         after (page_met memory v.root write r.at) _ first (Ok (first, s.0)) (page_is memory v.root write r.at first e)
-            (after (cond (last_page r == r.at / 4096) (Ok first) (page_met memory v.root write (last_page r * 4096))) (λ (l : ℕ). Ok (first, l)) s.0 (Ok (first, s.0)) s.1 refl),
+            (after (cond (last_page r == r.at / 4096) (Ok first) (page_met memory v.root write (last_page r * 4096)))
+            (λ (l : ℕ). Ok (first, l)) s.0 (Ok (first, s.0)) s.1 refl),
       )
     where
       second : (one : Bool) → (l : ℕ) × (cond one (Ok first) (page_met memory v.root write (last_page r * 4096)) ≡ Ok l)
       second true = (first, refl)
-      second false = (last, page_is memory v.root write (last_page r * 4096) last (subst (λ (p : ℕ). Leads memory v.root write p last) (sym (back (last_page r))) g))
+      second false = (
+        last,
+        page_is memory v.root write (last_page r * 4096) last
+            (subst (λ (p : ℕ). Leads memory v.root write p last) (sym (back (last_page r))) g),
+      )
 
   range_parts : (write : Bool) (r : Range) (x : ℕ × ℕ) → range_met memory v write r ≡ Ok x → IsRange memory v write r
   unfolding range_met
   range_parts write r x e =
-      let p = bound (unless exits.Wrap (nat_le (r.at + r.len) (2 ^ 32))) (λ (u : Unit {0}). unless (limit_fault r.seg) (not (is_past_limit v r.at)) >>= (λ (w : Unit {0}). pages_met memory v.root write r)) x e in
+      let p = bound (unless exits.Wrap (nat_le (r.at + r.len) (2 ^ 32)))
+      (λ (u : Unit {0}). unless (limit_fault r.seg) (not (is_past_limit v r.at)) >>= (λ (w : Unit {0}). pages_met memory v.root write r)) x
+      e in
       let q = bound (unless (limit_fault r.seg) (not (is_past_limit v r.at))) (λ (w : Unit {0}). pages_met memory v.root write r) x p.1.1 in
       let s = pages_parts write r x q.1.1 in
       record {
@@ -203,17 +236,21 @@ module _ (memory : List ℕ) (v : View) where
   range_is write r h =
       let p = pages_are write r h.first h.last h.first_is h.last_is in (
         p.0,
-        after (unless exits.Wrap (nat_le (r.at + r.len) (2 ^ 32))) _ tt (Ok p.0) (tests _ (nat_le (r.at + r.len) (2 ^ 32)) (le-leb (r.at + r.len) (2 ^ 32) h.fits))
-            (after (unless (limit_fault r.seg) (not (is_past_limit v r.at))) (λ (w : Unit {0}). pages_met memory v.root write r) tt (Ok p.0) (tests _ (not (is_past_limit v r.at)) (ap not h.above)) p.1),
+        after (unless exits.Wrap (nat_le (r.at + r.len) (2 ^ 32))) _ tt (Ok p.0)
+            (tests _ (nat_le (r.at + r.len) (2 ^ 32)) (le-leb (r.at + r.len) (2 ^ 32) h.fits))
+            (after (unless (limit_fault r.seg) (not (is_past_limit v r.at))) (λ (w : Unit {0}). pages_met memory v.root write r) tt (Ok p.0)
+            (tests _ (not (is_past_limit v r.at)) (ap not h.above)) p.1),
       )
 
   access_parts : (write : Bool) (o : Option Range) (x : Unit {0}) → access_met memory v write o ≡ Ok x → AreRanges memory v write o
   access_parts write None x e = tt
-  access_parts write (Some r) x e = let p = bound (range_met memory v write r) (λ (q : ℕ × ℕ). gives tt) x e in range_parts write r p.0 p.1.0
+  access_parts write (Some r) x e = let p =
+      bound (range_met memory v write r) (λ (q : ℕ × ℕ). gives tt) x e in range_parts write r p.0 p.1.0
 
   access_is : (write : Bool) (o : Option Range) → AreRanges memory v write o → access_met memory v write o ≡ Ok tt
   access_is write None h = refl
-  access_is write (Some r) h = let p = range_is write r h in after (range_met memory v write r) (λ (q : ℕ × ℕ). gives tt) p.0 (Ok tt) p.1 refl
+  access_is write (Some r) h = let p =
+      range_is write r h in after (range_met memory v write r) (λ (q : ℕ × ℕ). gives tt) p.0 (Ok tt) p.1 refl
 
   -- ---- segments
 
@@ -246,7 +283,8 @@ module _ (memory : List ℕ) (v : View) (r : Regs) where
   effect_there insn len = finished v insn.op memory (user_effect (selectors_of v) insn len r (byte_at memory v.root))
 
   spelled_parts : (d : Decoded) (x : Insn × ℕ) → spelled d ≡ Ok x → d ≡ begins.Insn x.0 x.1
-  spelled_parts (begins.Insn insn len) x e = let same : ◌≡◌ {A = Insn × ℕ} (insn, len) x = cc in ap (λ (p : Insn × ℕ). begins.Insn p.0 p.1) same
+  spelled_parts (begins.Insn insn len) x e = let same : ◌≡◌ {A = Insn × ℕ} (insn, len) x =
+      cc in ap (λ (p : Insn × ℕ). begins.Insn p.0 p.1) same
   spelled_parts begins.Short x e = absurd cc
   spelled_parts begins.Outside x e = absurd cc
 
@@ -257,16 +295,22 @@ module _ (memory : List ℕ) (v : View) (r : Regs) where
   unfolding worked
   worked_is insn len h =
       after (permitted insn) _ tt (effect_there insn len) h.permitted
-      (after (segment_met v (ranges_of insn r).read) _ tt (effect_there insn len) (segment_is memory v (ranges_of insn r).read h.read_segment)
-      (after (segment_met v (ranges_of insn r).write) _ tt (effect_there insn len) (segment_is memory v (ranges_of insn r).write h.write_segment)
-      (after (access_met memory v false (ranges_of insn r).read) _ tt (effect_there insn len) (access_is memory v false (ranges_of insn r).read h.read)
-      (after (access_met memory v true (ranges_of insn r).write) (λ (u : Unit {0}). effect_there insn len) tt (effect_there insn len) (access_is memory v true (ranges_of insn r).write h.write) refl))))
+      (after (segment_met v (ranges_of insn r).read) _ tt (effect_there insn len)
+      (segment_is memory v (ranges_of insn r).read h.read_segment)
+      (after (segment_met v (ranges_of insn r).write) _ tt (effect_there insn len)
+      (segment_is memory v (ranges_of insn r).write h.write_segment)
+      (after (access_met memory v false (ranges_of insn r).read) _ tt (effect_there insn len)
+      (access_is memory v false (ranges_of insn r).read h.read)
+      (after (access_met memory v true (ranges_of insn r).write) (λ (u : Unit {0}). effect_there insn len) tt (effect_there insn len)
+      (access_is memory v true (ranges_of insn r).write h.write) refl))))
 
   pub host_is : (insn : Insn) (len : ℕ) → IsMet memory v r insn len → host_step v memory r ≡ effect_there insn len
   unfolding host_step
   host_is insn len h =
-      after (unless (exits.Entry r.eip) (not (is_entry v r.eip))) _ tt (effect_there insn len) (tests _ (not (is_entry v r.eip)) (ap not h.outside))
-      (after (fetched memory v.root r.eip) _ (begins.Insn insn len) (effect_there insn len) (fetch_is memory v.root r.eip insn len h.way) (worked_is insn len h))
+      after (unless (exits.Entry r.eip) (not (is_entry v r.eip))) _ tt (effect_there insn len)
+      (tests _ (not (is_entry v r.eip)) (ap not h.outside))
+      (after (fetched memory v.root r.eip) _ (begins.Insn insn len) (effect_there insn len) (fetch_is memory v.root r.eip insn len h.way)
+      (worked_is insn len h))
 
   -- what the host did
   pub record Did (x : Completion × List ℕ) : Type 0 where
@@ -275,7 +319,8 @@ module _ (memory : List ℕ) (v : View) (r : Regs) where
     pub met : IsMet memory v r insn len
     pub is : effect_there insn len ≡ Ok x
 
-  worked_parts : (insn : Insn) (len : ℕ) (x : Completion × List ℕ) → is_entry v r.eip ≡ false → Way (Leads memory v.root false) memory r.eip insn len → worked v memory r insn len ≡ Ok x → Did x
+  worked_parts : (insn : Insn) (len : ℕ) (x : Completion × List ℕ) → is_entry v r.eip ≡ false
+      → Way (Leads memory v.root false) memory r.eip insn len → worked v memory r insn len ≡ Ok x → Did x
   unfolding worked
   worked_parts insn len x outside way e =
       let p = bound (permitted insn) _ x e in

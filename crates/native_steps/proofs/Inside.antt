@@ -7,13 +7,16 @@ use Rattle.sites.specs.declared.site.Site.{Site}
 use Rattle.image_check.specs.Places.{is_site_at}
 use Rattle.image_check.specs.Standing.{lies_in, site_at}
 
-not_in : (s : Site) (eip : ℕ) → 0x10000000 ≤ eip → lies_in (eip - 0x10000000) s ≡ false → (nat_le (0x10000000 + s.at) eip && nat_lt eip (0x10000000 + s.at + s.total)) ≡ false
+not_in : (s : Site) (eip : ℕ) → 0x10000000 ≤ eip → lies_in (eip - 0x10000000) s ≡ false
+    → (nat_le (0x10000000 + s.at) eip && nat_lt eip (0x10000000 + s.at + s.total)) ≡ false
 not_in s eip above out =
     false_from_ne_true (nat_le (0x10000000 + s.at) eip && nat_lt eip (0x10000000 + s.at + s.total)) (λ e.
     let p = and_parts (nat_le (0x10000000 + s.at) eip) (nat_lt eip (0x10000000 + s.at + s.total)) e in
     let low = leb-true (0x10000000 + s.at) eip p.0 in
     let high = ltb-true eip (0x10000000 + s.at + s.total) p.1 in
-    both_ways (lies_in (eip - 0x10000000) s) out (and_from (nat_le s.at (eip - 0x10000000)) (nat_lt (eip - 0x10000000) (s.at + s.total)) (le-leb s.at (eip - 0x10000000) (omega (arith, above, low))) (lt-ltb (eip - 0x10000000) (s.at + s.total) (omega (arith, above, high)))))
+    both_ways (lies_in (eip - 0x10000000) s) out
+    (and_from (nat_le s.at (eip - 0x10000000)) (nat_lt (eip - 0x10000000) (s.at + s.total))
+    (le-leb s.at (eip - 0x10000000) (omega (arith, above, low))) (lt-ltb (eip - 0x10000000) (s.at + s.total) (omega (arith, above, high)))))
 
 none_found : (test : Site → Bool) (s : Site) (ss : List Site) → find test (s ∷ ss) ≡ None → (test s ≡ false) × (find test ss ≡ None)
 none_found test s ss e = by_test (test s) refl e

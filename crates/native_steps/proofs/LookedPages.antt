@@ -82,17 +82,20 @@ module _ (user : Bool) (s : Space) (page at : ℕ) (small : page < 2 ^ 20) where
     granted : grants e reading s.wp ≡ true
     free : is_stopped s.mode reading page e.frame d t ≡ false
 
-  found_where_allowed : (e : Entry) (d t : ℕ) → IsPassed e d t → found_by s.mode page reading s.wp (Found e d t) ≡ Some (record { frame = e.frame; marks = d ∷ t ∷ [] })
+  found_where_allowed : (e : Entry) (d t : ℕ) → IsPassed e d t → found_by s.mode page reading s.wp (Found e d t) ≡ Some
+      (record { frame = e.frame; marks = d ∷ t ∷ [] })
   found_where_allowed e d t h =
       let x : Option Seen = Some (record { frame = e.frame; marks = d ∷ t ∷ [] }) in
       cond-false (not (grants e reading s.wp)) None (cond (is_stopped s.mode reading page e.frame d t) None x) (ap not h.granted)
       ∙ cond-false (is_stopped s.mode reading page e.frame d t) None x h.free
 
   module _ (t : Space) where
-    by_kept : (e : Entry) → usable (get s.set page) reading s.wp ≡ Some e → by_entry seen_now true page at reading (Some e) ≡ (Ready, t) → PageSeen s.mode reading (look s) (look t) page
+    by_kept : (e : Entry) → usable (get s.set page) reading s.wp ≡ Some e → by_entry seen_now true page at reading (Some e) ≡ (Ready, t)
+        → PageSeen s.mode reading (look s) (look t) page
     by_kept e found h = choice (barred e.frame) refl h
       where
-        choice : (text : Bool) → barred e.frame ≡ text → cond {A = Touch × Space} text (Stop stops.TextMapped, seen_now) (Ready, seen_now) ≡ (Ready, t) → PageSeen s.mode reading (look s) (look t) page
+        choice : (text : Bool) → barred e.frame ≡ text → cond {A = Touch × Space} text (Stop stops.TextMapped, seen_now) (Ready, seen_now)
+            ≡ (Ready, t) → PageSeen s.mode reading (look s) (look t) page
         choice true bar y = absurd (let g : Stop stops.TextMapped ≡ Ready = ap (λ (o : Touch × Space). o.0) y in cc)
         choice false bar y =
             subst (λ (z : Space). PageSeen s.mode reading (look s) (look z) page) (ap (λ (o : Touch × Space). o.1) y) (record {
@@ -112,7 +115,8 @@ module _ (user : Bool) (s : Space) (page at : ℕ) (small : page < 2 ^ 20) where
               wp = refl;
             })
 
-    by_fresh : usable (get s.set page) reading s.wp ≡ None → settled seen_now page (decided (tables_of s) true page at reading) ≡ (Ready, t) → PageSeen s.mode reading (look s) (look t) page
+    by_fresh : usable (get s.set page) reading s.wp ≡ None → settled seen_now page (decided (tables_of s) true page at reading) ≡ (Ready, t)
+        → PageSeen s.mode reading (look s) (look t) page
     unfolding flagged
     by_fresh none h =
         let met : (decided (tables_of s) true page at reading).met ≡ Ready = ap (λ (o : Touch × Space). o.0) h in
@@ -120,18 +124,25 @@ module _ (user : Bool) (s : Space) (page at : ℕ) (small : page < 2 ^ 20) where
         let entry : Entry = dirtied r.entry false in
         let got : (q : ℕ) → get (insert s.set page entry) q ≡ cond (q == page) (Some entry) (get s.set q) = λ q.
         get-insert nat_cmp_total s.set page entry q ∙ ap (λ c. cond c (Some entry) (get s.set q)) (unsigned_tied q page) in
-        let built : Space = record seen_now { ram = flagged s.ram r.dir_at r.word_at false; set = insert s.set page entry; tables = s.tables ++ tables_read s.ram s.frames s.cr3 s.pse page } in
+        let built : Space = record seen_now {
+          ram = flagged s.ram r.dir_at r.word_at false;
+          set = insert s.set page entry;
+          tables = s.tables ++ tables_read s.ram s.frames s.cr3 s.pse page;
+        } in
         let end : built ≡ t = sym (ap (λ (d : Decision). (settled seen_now page d).1) r.is) ∙ ap (λ (o : Touch × Space). o.1) h in
-        let page_is : r.entry.page ≡ page = page_of_walk s.ram s.frames s.cr3 s.pse page r.entry r.dir_at r.word_at (walk_parts s.ram s.frames s.cr3 s.pse page r.entry r.dir_at r.word_at r.found) in
+        let page_is : r.entry.page ≡ page = page_of_walk s.ram s.frames s.cr3 s.pse page r.entry r.dir_at r.word_at
+        (walk_parts s.ram s.frames s.cr3 s.pse page r.entry r.dir_at r.word_at r.found) in
         let free : barred r.entry.frame ≡ false = ap (λ n. is_barred s.mode true user n r.entry.frame) (sym page_is) ∙ r.free in
         let clear : (is_text s.mode (r.dir_at / 4096) || is_text s.mode (r.word_at / 4096)) ≡ false =
-        sym (reads_text (tables_of s) page r.entry r.dir_at r.word_at small r.found) ∙ decided_clear (tables_of s) true page at reading met in
+        sym (reads_text (tables_of s) page r.entry r.dir_at r.word_at small r.found)
+        ∙ decided_clear (tables_of s) true page at reading met in
         subst (λ (z : Space). PageSeen s.mode reading (look s) (look z) page) end (record {
           x = record { frame = r.entry.frame; marks = r.dir_at ∷ r.word_at ∷ [] };
           is =
               ap (λ (o : Option Entry). seen_by s.mode page o reading s.wp (fresh s.ram s.frames s.cr3 s.pse page)) none
               ∙ ap (found_by s.mode page reading s.wp) r.found
-              ∙ found_where_allowed r.entry r.dir_at r.word_at (record { granted = r.granted; free = or_from (barred r.entry.frame) _ free clear });
+              ∙ found_where_allowed r.entry r.dir_at r.word_at
+              (record { granted = r.granted; free = or_from (barred r.entry.frame) _ free clear });
           own = sym (own_marks s r.dir_at r.word_at) ∙ r.own;
           ram = refl;
           entry = entry;
@@ -148,7 +159,8 @@ module _ (user : Bool) (s : Space) (page at : ℕ) (small : page < 2 ^ 20) where
     unfolding page_uses
     page_seen h = by_usable (usable (get s.set page) reading s.wp) refl h
       where
-        by_usable : (o : Option Entry) → usable (get s.set page) reading s.wp ≡ o → by_entry seen_now true page at reading o ≡ (Ready, t) → PageSeen s.mode reading (look s) (look t) page
+        by_usable : (o : Option Entry) → usable (get s.set page) reading s.wp ≡ o → by_entry seen_now true page at reading o ≡ (Ready, t)
+            → PageSeen s.mode reading (look s) (look t) page
         by_usable (Some e) is g = by_kept e is g
         by_usable None is g = by_fresh is g
 
@@ -161,37 +173,48 @@ module _ (user : Bool) (s : Space) (page at : ℕ) (small : page < 2 ^ 20) where
   found_parts : (x : Seen) (e : Entry) (d t : ℕ) → found_by s.mode page reading s.wp (Found e d t) ≡ Some x → IsFoundSeen x e d t
   found_parts x e d t h = by_grant (grants e reading s.wp) refl h
     where
-      by_stop : grants e reading s.wp ≡ true → (c : Bool) → is_stopped s.mode reading page e.frame d t ≡ c → cond {A = Option Seen} c None (Some (record { frame = e.frame; marks = d ∷ t ∷ [] })) ≡ Some x → IsFoundSeen x e d t
+      by_stop : grants e reading s.wp ≡ true → (c : Bool) → is_stopped s.mode reading page e.frame d t ≡ c
+          → cond {A = Option Seen} c None (Some (record { frame = e.frame; marks = d ∷ t ∷ [] })) ≡ Some x → IsFoundSeen x e d t
       by_stop g true is f = absurd cc
-      by_stop g false is f = let same : record { frame = e.frame; marks = d ∷ t ∷ [] } ≡ x = cc in record { passes = record { granted = g; free = is }; marks = ap (λ (y : Seen). y.marks) same }
+      by_stop g false is f = let same : record { frame = e.frame; marks = d ∷ t ∷ [] } ≡ x =
+          cc in record { passes = record { granted = g; free = is }; marks = ap (λ (y : Seen). y.marks) same }
 
-      by_grant : (g : Bool) → grants e reading s.wp ≡ g → cond {A = Option Seen} (not g) None (cond (is_stopped s.mode reading page e.frame d t) None (Some (record { frame = e.frame; marks = d ∷ t ∷ [] }))) ≡ Some x → IsFoundSeen x e d t
+      by_grant : (g : Bool) → grants e reading s.wp ≡ g
+          → cond {A = Option Seen} (not g) None
+          (cond (is_stopped s.mode reading page e.frame d t) None (Some (record { frame = e.frame; marks = d ∷ t ∷ [] }))) ≡ Some x
+          → IsFoundSeen x e d t
       by_grant false g f = absurd cc
       by_grant true g f = by_stop g (is_stopped s.mode reading page e.frame d t) refl f
 
-  fresh_found : (x : Seen) → found_by s.mode page reading s.wp (fresh s.ram s.frames s.cr3 s.pse page) ≡ Some x → marks_any s.mode s.ram x.marks ≡ false → (decided (tables_of s) true page at reading).met ≡ Ready
+  fresh_found : (x : Seen) → found_by s.mode page reading s.wp (fresh s.ram s.frames s.cr3 s.pse page) ≡ Some x
+      → marks_any s.mode s.ram x.marks ≡ false → (decided (tables_of s) true page at reading).met ≡ Ready
   fresh_found x h own = by_walk (fresh s.ram s.frames s.cr3 s.pse page) refl h
     where
-      by_walk : (w : Walk) → fresh s.ram s.frames s.cr3 s.pse page ≡ w → found_by s.mode page reading s.wp w ≡ Some x → (decided (tables_of s) true page at reading).met ≡ Ready
+      by_walk : (w : Walk) → fresh s.ram s.frames s.cr3 s.pse page ≡ w → found_by s.mode page reading s.wp w ≡ Some x
+          → (decided (tables_of s) true page at reading).met ≡ Ready
       by_walk Absent is g = absurd cc
       by_walk Beyond is g = absurd cc
       by_walk Reserved is g = absurd cc
       by_walk (Found e d t) is g =
           let p = found_parts x e d t g in
           let two = or_parts (barred e.frame) (is_text s.mode (d / 4096) || is_text s.mode (t / 4096)) p.passes.free in
-          let page_is : e.page ≡ page = page_of_walk s.ram s.frames s.cr3 s.pse page e d t (walk_parts s.ram s.frames s.cr3 s.pse page e d t is) in
+          let page_is : e.page ≡ page =
+          page_of_walk s.ram s.frames s.cr3 s.pse page e d t (walk_parts s.ram s.frames s.cr3 s.pse page e d t is) in
           decided_ready (tables_of s) true page at reading e d t (reads_text (tables_of s) page e d t small is ∙ two.1) is p.passes.granted
           (ap (λ n. is_barred s.mode true user n e.frame) page_is ∙ two.0) (own_marks s d t ∙ ap (marks_any s.mode s.ram) p.marks ∙ own)
 
-  page_found : (x : Seen) → seen_in s.mode (look s) reading page ≡ Some x → marks_any s.mode s.ram x.marks ≡ false → (page_uses s true page at reading).0 ≡ Ready
+  page_found : (x : Seen) → seen_in s.mode (look s) reading page ≡ Some x → marks_any s.mode s.ram x.marks ≡ false
+      → (page_uses s true page at reading).0 ≡ Ready
   unfolding page_uses
   page_found x h own = by_usable (usable (get s.set page) reading s.wp) h
     where
-      by_bar : (e : Entry) (c : Bool) → cond {A = Option Seen} c None (Some (record { frame = e.frame; marks = [] })) ≡ Some x → (cond {A = Touch × Space} c (Stop stops.TextMapped, seen_now) (Ready, seen_now)).0 ≡ Ready
+      by_bar : (e : Entry) (c : Bool) → cond {A = Option Seen} c None (Some (record { frame = e.frame; marks = [] })) ≡ Some x
+          → (cond {A = Touch × Space} c (Stop stops.TextMapped, seen_now) (Ready, seen_now)).0 ≡ Ready
       by_bar e true f = absurd cc
       by_bar e false f = refl
 
-      by_usable : (o : Option Entry) → seen_by s.mode page o reading s.wp (fresh s.ram s.frames s.cr3 s.pse page) ≡ Some x → (by_entry seen_now true page at reading o).0 ≡ Ready
+      by_usable : (o : Option Entry) → seen_by s.mode page o reading s.wp (fresh s.ram s.frames s.cr3 s.pse page) ≡ Some x
+          → (by_entry seen_now true page at reading o).0 ≡ Ready
       by_usable (Some e) g = by_bar e (barred e.frame) g
       by_usable None g = fresh_found x g own
 
@@ -206,18 +229,22 @@ pub record FetchFound (user : Bool) (s : Space) (at len : ℕ) : Type 0 where
   pub reads : fetching user at len s ≡ Ok (bytes, after)
 
 module _ (m : Setting) (b : State) (kernel : Bool) where
-  pub fetch_seen : (s t : Space) (at len : ℕ) (bytes : List ℕ) → at / 4096 < 2 ^ 20 → fetching (not kernel) at len s ≡ Ok (bytes, t) → FetchSeen (not kernel) s t at len bytes
+  pub fetch_seen : (s t : Space) (at len : ℕ) (bytes : List ℕ) → at / 4096 < 2 ^ 20 → fetching (not kernel) at len s ≡ Ok (bytes, t)
+      → FetchSeen (not kernel) s t at len bytes
   unfolding fetching fetches place
   fetch_seen s t at len bytes small e =
       let access : Access = record { write = false; user = not kernel } in
       let p = taken_parts m b kernel at len (fetches s at len (not kernel)).0 (fetches s at len (not kernel)).1 bytes t e in
       let o : Touch × Space = page_uses (unready s) true (at / 4096) at access in
-      let whole : and_then o (made_ready at len false) ≡ (Ready, t) = pair m b kernel (fetches s at len (not kernel)) p.0 ∙ ap (λ (x : Space). (Ready, x)) p.1.1 in
+      let whole : and_then o (made_ready at len false) ≡ (Ready, t) =
+      pair m b kernel (fetches s at len (not kernel)) p.0 ∙ ap (λ (x : Space). (Ready, x)) p.1.1 in
       let q = on_ready m b kernel o (made_ready at len false) t whole in
-      let h : PageSeen s.mode access (look s) (look o.1) (at / 4096) = page_seen (not kernel) (unready s) (at / 4096) at small o.1 (pair m b kernel o q.0) in
+      let h : PageSeen s.mode access (look s) (look o.1) (at / 4096) =
+      page_seen (not kernel) (unready s) (at / 4096) at small o.1 (pair m b kernel o q.0) in
       let left : record o.1 { ready = record { start = at; len = len; write = false } } ≡ t = ap (λ (x : Touch × Space). x.1) q.1 in
       let same : look o.1 ≡ look t = ap look left in
-      let page : PageSeen s.mode access (look s) (look t) (at / 4096) = subst (λ (z : Look). PageSeen s.mode access (look s) z (at / 4096)) same h in
+      let page : PageSeen s.mode access (look s) (look t) (at / 4096) =
+      subst (λ (z : Look). PageSeen s.mode access (look s) z (at / 4096)) same h in
       let frame = page.frame_is in
       let sum : page.entry.frame * 4096 + at % 4096 ≡ 4096 * page.x.frame + at % 4096 = omega (arith, frame) in
       record {
@@ -230,7 +257,9 @@ module _ (m : Setting) (b : State) (kernel : Bool) where
             ∙ ap (λ (n : ℕ). part (marked s.ram page.x.marks) n len) sum;
       }
 
-  pub fetch_found : (s : Space) (at len : ℕ) (x : Seen) → at / 4096 < 2 ^ 20 → seen_in s.mode (look s) (record { write = false; user = not kernel }) (at / 4096) ≡ Some x → marks_any s.mode s.ram x.marks ≡ false → FetchFound (not kernel) s at len
+  pub fetch_found : (s : Space) (at len : ℕ) (x : Seen) → at / 4096 < 2 ^ 20
+      → seen_in s.mode (look s) (record { write = false; user = not kernel }) (at / 4096) ≡ Some x → marks_any s.mode s.ram x.marks ≡ false
+      → FetchFound (not kernel) s at len
   unfolding fetching fetches
   fetch_found s at len x small h own =
       let o : Touch × Space = page_uses (unready s) true (at / 4096) at (record { write = false; user = not kernel }) in

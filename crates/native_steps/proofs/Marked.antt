@@ -29,20 +29,24 @@ marks_are_read ram (p ∷ ps) k fit within =
     let e = or_32 (byte ram p) old in
     let new : v < 256 = omega (arith, e, old) in
     let long = length-with_byte ram p v lt in
-    let rest : All (λ at. at < length (with_byte ram p v)) ps = λ i d below. subst (λ n. Rattle.std.specs.Prelude.slice_index_or ps i d < n) (sym long) (within (suc i) d (omega (arith, below))) in
+    let rest : All (λ at. at < length (with_byte ram p v)) ps =
+    λ i d below. subst (λ n. Rattle.std.specs.Prelude.slice_index_or ps i d < n) (sym long) (within (suc i) d (omega (arith, below))) in
     marks_are_read (with_byte ram p v) ps k (bytes_with ram p v lt fit new) rest ∙ here v lt old (k == p) refl
   where
     here : (v : ℕ) → p < length ram → byte ram p < 256 → (c : Bool) → (k == p) ≡ c
-        → cond (is_among k ps) (bit_or (byte (with_byte ram p (bit_or (byte ram p) 32)) k) 32) (byte (with_byte ram p (bit_or (byte ram p) 32)) k)
+        → cond (is_among k ps) (bit_or (byte (with_byte ram p (bit_or (byte ram p) 32)) k) 32)
+        (byte (with_byte ram p (bit_or (byte ram p) 32)) k)
         ≡ cond ((k == p) || is_among k ps) (bit_or (byte ram k) 32) (byte ram k)
     here v lt old true is =
         let same : p ≡ k = sym (eqb-true k p is) in
-        let now : byte (with_byte ram p (bit_or (byte ram p) 32)) k ≡ bit_or (byte ram p) 32 = ap (byte (with_byte ram p (bit_or (byte ram p) 32))) (sym same) ∙ byte-with_byte ram p (bit_or (byte ram p) 32) lt in
+        let now : byte (with_byte ram p (bit_or (byte ram p) 32)) k ≡ bit_or (byte ram p) 32 =
+        ap (byte (with_byte ram p (bit_or (byte ram p) 32))) (sym same) ∙ byte-with_byte ram p (bit_or (byte ram p) 32) lt in
         both_same (is_among k ps) _ _ (ap (λ n. bit_or n 32) now ∙ again (byte ram p) old ∙ sym now)
         ∙ now
         ∙ ap (λ n. bit_or (byte ram n) 32) same
         ∙ sym (ap (λ c. cond (c || is_among k ps) (bit_or (byte ram k) 32) (byte ram k)) is)
     here v lt old false is =
-        let now : byte (with_byte ram p (bit_or (byte ram p) 32)) k ≡ byte ram k = byte_other ram p (bit_or (byte ram p) 32) k lt (λ g. both_ways (k == p) is (eq-eqb k p g)) in
+        let now : byte (with_byte ram p (bit_or (byte ram p) 32)) k ≡ byte ram k =
+        byte_other ram p (bit_or (byte ram p) 32) k lt (λ g. both_ways (k == p) is (eq-eqb k p g)) in
         ap (λ n. cond (is_among k ps) (bit_or n 32) n) now
         ∙ sym (ap (λ c. cond (c || is_among k ps) (bit_or (byte ram k) 32) (byte ram k)) is)

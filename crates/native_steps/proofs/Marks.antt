@@ -31,10 +31,12 @@ unfolding all_below
 all_dirtied = refl
 
 pub or_32 : (n : ℕ) → n < 256 → bit_or n 32 ≡ n % 32 + 32 + n / 64 * 64
-or_32 n lt = eqb-true (bit_or n 32) (n % 32 + 32 + n / 64 * 64) (told_below (λ k. bit_or k 32 == k % 32 + 32 + k / 64 * 64) 256 n lt all_accessed)
+or_32 n lt =
+    eqb-true (bit_or n 32) (n % 32 + 32 + n / 64 * 64) (told_below (λ k. bit_or k 32 == k % 32 + 32 + k / 64 * 64) 256 n lt all_accessed)
 
 pub or_96 : (n : ℕ) → n < 256 → bit_or n 96 ≡ n % 32 + 96 + n / 128 * 128
-or_96 n lt = eqb-true (bit_or n 96) (n % 32 + 96 + n / 128 * 128) (told_below (λ k. bit_or k 96 == k % 32 + 96 + k / 128 * 128) 256 n lt all_dirtied)
+or_96 n lt =
+    eqb-true (bit_or n 96) (n % 32 + 96 + n / 128 * 128) (told_below (λ k. bit_or k 96 == k % 32 + 96 + k / 128 * 128) 256 n lt all_dirtied)
 
 -- a byte in which flags were set
 pub record IsMark (b v : ℕ) : Type 0 where
@@ -77,7 +79,12 @@ pub record IsMarked (w x : ℕ) : Type 0 where
   pub dirty : w / 64 % 2 ≡ 1 → x / 64 % 2 ≡ 1
 
 same_word : (w x : ℕ) → x ≡ w → IsMarked w x
-same_word w x e = record { low = ap (λ n. n % 32) e; frame = ap (λ n. n / 4096) e; size = ap (λ n. n / 128 % 2) e; dirty = λ d. ap (λ n. n / 64 % 2) e ∙ d }
+same_word w x e = record {
+  low = ap (λ n. n % 32) e;
+  frame = ap (λ n. n / 4096) e;
+  size = ap (λ n. n / 128 % 2) e;
+  dirty = λ d. ap (λ n. n / 64 % 2) e ∙ d;
+}
 
 -- memory in which words have flags more
 pub record AreMarked (ram new : List ℕ) : Type 0 where
@@ -105,7 +112,8 @@ byte_other x p v k lt other =
       | inr above ↦ byte-with_part_above x p _ k (omega (arith, lt)) (omega (arith, above, other))
     ]
 
-word_by : (x y : List ℕ) (a : ℕ) → byte y a ≡ byte x a → byte y (a + 1) ≡ byte x (a + 1) → byte y (a + 2) ≡ byte x (a + 2) → byte y (a + 3) ≡ byte x (a + 3) → word32 y a ≡ word32 x a
+word_by : (x y : List ℕ) (a : ℕ) → byte y a ≡ byte x a → byte y (a + 1) ≡ byte x (a + 1) → byte y (a + 2) ≡ byte x (a + 2)
+    → byte y (a + 3) ≡ byte x (a + 3) → word32 y a ≡ word32 x a
 word_by x y a p q r s =
     let w = word32-is x a in
     let v = word32-is y a in
@@ -153,7 +161,8 @@ one_marked x p v aligned room m = record {
 pub bytes_with : (x : List ℕ) (p v : ℕ) → p < length x → AreBytes x → v < 256 → AreBytes (with_byte x p v)
 bytes_with x p v lt h small = λ k.
     elim (cases_eq k p) [
-      | inl is ↦ let e : byte (with_byte x p v) k ≡ v = ap (byte (with_byte x p v)) is ∙ byte-with_byte x p v lt in unbyte (with_byte x p v) k (omega (arith, e, small))
+      | inl is ↦ let e : byte (with_byte x p v) k ≡ v =
+          ap (byte (with_byte x p v)) is ∙ byte-with_byte x p v lt in unbyte (with_byte x p v) k (omega (arith, e, small))
       | inr other ↦ let e = byte_other x p v k lt other in let b = byte_lt x k h in unbyte (with_byte x p v) k (omega (arith, e, b))
     ]
   where
@@ -169,7 +178,8 @@ bytes_with x p v lt h small = λ k.
 
 -- ---- what a walk sets
 
-module _ (x : List ℕ) (d t : ℕ) (write : Bool) (d_even : d % 4 ≡ 0) (t_even : t % 4 ≡ 0) (d_in : d + 4 ≤ length x) (t_in : t + 4 ≤ length x) (fit : AreBytes x) where
+module _ (x : List ℕ) (d t : ℕ) (write : Bool) (d_even : d % 4 ≡ 0) (t_even : t % 4 ≡ 0) (d_in : d + 4 ≤ length x) (t_in : t + 4 ≤ length x)
+    (fit : AreBytes x) where
   first : List ℕ
   first = with_byte x d (bit_or (byte x d) 32)
 
@@ -189,13 +199,15 @@ module _ (x : List ℕ) (d t : ℕ) (write : Bool) (d_even : d % 4 ≡ 0) (t_eve
   unfolding first flagged
   flagged_marked =
       let long = first_long in
-      marked_on x first _ first_marked (one_marked first t (bit_or (byte first t) (flags_of write)) t_even (omega (arith, long, t_in)) (mark_is write (byte first t) (byte_lt first t first_fit)))
+      marked_on x first _ first_marked (one_marked first t (bit_or (byte first t) (flags_of write)) t_even (omega (arith, long, t_in))
+      (mark_is write (byte first t) (byte_lt first t first_fit)))
 
   pub flagged_fit : AreBytes (flagged x d t write)
   unfolding first flagged
   flagged_fit =
       let long = first_long in
-      bytes_with first t (bit_or (byte first t) (flags_of write)) (omega (arith, long, t_in)) first_fit (mark_is write (byte first t) (byte_lt first t first_fit)).new
+      bytes_with first t (bit_or (byte first t) (flags_of write)) (omega (arith, long, t_in)) first_fit
+      (mark_is write (byte first t) (byte_lt first t first_fit)).new
 
   -- a write sets the dirty flag
   pub flagged_dirty : write ≡ true → word32 (flagged x d t write) t / 64 % 2 ≡ 1
@@ -205,12 +217,14 @@ module _ (x : List ℕ) (d t : ℕ) (write : Bool) (d_even : d % 4 ≡ 0) (t_eve
       let lt : t < length first = omega (arith, long, t_in) in
       let b = byte first t in
       let or = or_96 b (byte_lt first t first_fit) in
-      let is : byte (with_byte first t (bit_or (byte first t) (flags_of write))) t ≡ bit_or b 96 = byte-with_byte first t _ lt ∙ ap (λ (f : Bool). bit_or b (flags_of f)) e in
+      let is : byte (with_byte first t (bit_or (byte first t) (flags_of write))) t ≡ bit_or b 96 =
+      byte-with_byte first t _ lt ∙ ap (λ (f : Bool). bit_or b (flags_of f)) e in
       let w = word32-is (with_byte first t (bit_or (byte first t) (flags_of write))) t in
       omega (arith, w, is, or)
 
   -- a byte that has the flags stays
-  pub flagged_kept : (k : ℕ) → (k ≡ d → has (byte x k) 32 ≡ true) → (k ≡ t → (has (byte x k) 32 ≡ true) × (write ≡ true → has (byte x k) 64 ≡ true)) → byte (flagged x d t write) k ≡ byte x k
+  pub flagged_kept : (k : ℕ) → (k ≡ d → has (byte x k) 32 ≡ true)
+      → (k ≡ t → (has (byte x k) 32 ≡ true) × (write ≡ true → has (byte x k) 64 ≡ true)) → byte (flagged x d t write) k ≡ byte x k
   unfolding first flagged
   flagged_kept k at_d at_t = second (k == t) refl
     where
@@ -218,7 +232,8 @@ module _ (x : List ℕ) (d t : ℕ) (write : Bool) (d_even : d % 4 ≡ 0) (t_eve
       one_by true e =
           let is : k ≡ d = eqb-true k d e in
           ap (byte (with_byte x d (bit_or (byte x d) 32))) is ∙ byte-with_byte x d _ (omega (arith, d_in))
-          ∙ has_them false (byte x d) (byte_lt x d fit) (subst (λ (n : ℕ). has (byte x n) 32 ≡ true) is (at_d is)) (λ f. absurd (let g : false ≡ true = f in cc))
+          ∙ has_them false (byte x d) (byte_lt x d fit) (subst (λ (n : ℕ). has (byte x n) 32 ≡ true) is (at_d is))
+          (λ f. absurd (let g : false ≡ true = f in cc))
           ∙ ap (byte x) (sym is)
       one_by false e = byte_other x d _ k (omega (arith, d_in)) (λ g. both_ways (k == d) e (eq-eqb k d g))
 
@@ -232,6 +247,8 @@ module _ (x : List ℕ) (d t : ℕ) (write : Bool) (d_even : d % 4 ≡ 0) (t_eve
           let had = at_t is in
           let same : byte first t ≡ byte x k = ap (byte first) (sym is) ∙ one in
           ap (byte (with_byte first t (bit_or (byte first t) (flags_of write)))) is ∙ byte-with_byte first t _ (omega (arith, long, t_in))
-          ∙ has_them write (byte first t) (byte_lt first t first_fit) (ap (λ n. has n 32) same ∙ had.0) (λ f. ap (λ n. has n 64) same ∙ had.1 f)
+          ∙ has_them write (byte first t) (byte_lt first t first_fit) (ap (λ n. has n 32) same ∙ had.0)
+          (λ f. ap (λ n. has n 64) same ∙ had.1 f)
           ∙ same
-      second false e = let long = first_long in byte_other first t _ k (omega (arith, long, t_in)) (λ g. both_ways (k == t) e (eq-eqb k t g)) ∙ one
+      second false e = let long =
+          first_long in byte_other first t _ k (omega (arith, long, t_in)) (λ g. both_ways (k == t) e (eq-eqb k t g)) ∙ one

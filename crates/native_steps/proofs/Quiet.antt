@@ -11,7 +11,9 @@ use Rattle.machine_model.specs.Step.{interrupt_of}
 use Rattle.native_steps.specs.Stretch.{board_now, AreQuiet, board_after}
 
 -- a processor with the same IF and hold takes no interrupt then
-interrupt_same : (cpu after : Cpu) (board : Board) → vector (board_step board) ≡ vector board → has after.regs.flags.bits 512 ≡ has cpu.regs.flags.bits 512 → after.held ≡ cpu.held → interrupt_of after (board_step board) ≡ interrupt_of cpu board
+interrupt_same : (cpu after : Cpu) (board : Board) → vector (board_step board) ≡ vector board
+    → has after.regs.flags.bits 512 ≡ has cpu.regs.flags.bits 512 → after.held ≡ cpu.held
+    → interrupt_of after (board_step board) ≡ interrupt_of cpu board
 interrupt_same cpu after board h flag held =
     ap (λ (v : Option ℕ). if has after.regs.flags.bits 512 && not after.held then v else None) h
     ∙ ap (λ (x : Bool). if x && not after.held then vector board else None) flag
@@ -28,7 +30,8 @@ module _ (quiet : StepsAreQuiet) (m : Setting) (b after : State) (h : IsLater m 
   now_same : (k : ℕ) → AreQuiet m b (suc (suc k)) → board_now m after ≡ board_step (board_now m b)
   now_same k q =
       let r = quiet (board_now m b) m.script b.step k q.1 in
-      ap (λ (x : Board). given x m.script after.step) h.board ∙ ap (given (board_step (board_now m b)) m.script) h.count ∙ r.no_event (board_step (board_now m b))
+      ap (λ (x : Board). given x m.script after.step) h.board ∙ ap (given (board_step (board_now m b)) m.script) h.count
+      ∙ r.no_event (board_step (board_now m b))
 
   -- the steps after it are quiet too
   pub quiet_on : (k : ℕ) → AreQuiet m b (suc k) → AreQuiet m after k
@@ -37,7 +40,8 @@ module _ (quiet : StepsAreQuiet) (m : Setting) (b after : State) (h : IsLater m 
       let r = quiet (board_now m b) m.script b.step k q.1 in
       let now = now_same k q in (
         ap (interrupt_of after.cpu) now ∙ interrupt_same b.cpu after.cpu (board_now m b) r.same_vector h.flag h.held ∙ q.0,
-        ap (λ (x : Board). comes_within x m.script after.step k) now ∙ ap (λ t. comes_within (board_step (board_now m b)) m.script t k) h.count ∙ r.later,
+        ap (λ (x : Board). comes_within x m.script after.step k) now
+            ∙ ap (λ t. comes_within (board_step (board_now m b)) m.script t k) h.count ∙ r.later,
       )
 
   -- and the board after them is that of one step more

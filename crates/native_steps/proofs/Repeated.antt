@@ -94,7 +94,9 @@ past_in at len x low high = omega (arith, low, high)
 in_frame : (f frame x : ℕ) → f ≡ frame → f * 4096 + x % 4096 ≡ 4096 * frame + x % 4096
 in_frame f frame x is = omega (arith, is)
 
-module _ (flags : EffectLaws) (m : Setting) (v : View) (b : State) (mode : m.mode ≡ wedge_mode m.image) (room : 4096 * m.frames ≤ length b.ram) (fit : AreBytes b.ram) (sound : AreWithin m b.set) (sees : Sees v b.cpu) (next : IsNext m v.kernel b) (small : b.cpu.regs.eip < 2 ^ 32) where
+module _ (flags : EffectLaws) (m : Setting) (v : View) (b : State) (mode : m.mode ≡ wedge_mode m.image)
+    (room : 4096 * m.frames ≤ length b.ram) (fit : AreBytes b.ram) (sound : AreWithin m b.set) (sees : Sees v b.cpu)
+    (next : IsNext m v.kernel b) (small : b.cpu.regs.eip < 2 ^ 32) where
   abbrev k : Bool
   k = v.kernel
 
@@ -120,13 +122,16 @@ module _ (flags : EffectLaws) (m : Setting) (v : View) (b : State) (mode : m.mod
     pub pages : List ℕ
     pub visited : t.visited ≡ pages
     pub shape : IsShaped insn
-    pub way : (last : Space) → Through m b v.kernel (after [] (map (used false) pages)) t last → Way (Fetches m (settled b last) v.kernel) last.ram b.cpu.regs.eip insn len
-    pub way_pages : (last : Space) (th : Through m b v.kernel (after [] (map (used false) pages)) t last) → went_of b.cpu.regs.eip (way last th) ≡ pages
+    pub way : (last : Space) → Through m b v.kernel (after [] (map (used false) pages)) t last
+        → Way (Fetches m (settled b last) v.kernel) last.ram b.cpu.regs.eip insn len
+    pub way_pages : (last : Space) (th : Through m b v.kernel (after [] (map (used false) pages)) t last)
+        → went_of b.cpu.regs.eip (way last th) ≡ pages
 
   moved : (ps : List ℕ) (s t last : Space) → s ≡ t → Through m b v.kernel ps t last → Through m b v.kernel ps s last
   moved ps s t last e th = subst (λ (x : Space). Through m b v.kernel ps x last) (sym e) th
 
-  began : (insn : Insn) (len : ℕ) (t : Space) (rest : List Use) → fetched (not v.kernel) b.cpu.regs.eip start ≡ Ok (begins.Insn insn len, t) → Clear [] (map (used false) t.visited ++ rest) → Began insn len t
+  began : (insn : Insn) (len : ℕ) (t : Space) (rest : List Use) → fetched (not v.kernel) b.cpu.regs.eip start ≡ Ok (begins.Insn insn len, t)
+      → Clear [] (map (used false) t.visited ++ rest) → Began insn len t
   began insn len t rest e clear =
       let p = fetch_parts (not v.kernel) b.cpu.regs.eip insn len start t e in
       by_end p (by_parts (not v.kernel) b.cpu.regs.eip insn len p.front p.first t (decoded p.front) refl p.goes_on)
@@ -134,22 +139,30 @@ module _ (flags : EffectLaws) (m : Setting) (v : View) (b : State) (mode : m.mod
       first_went : (p : IsFetch (not v.kernel) b.cpu.regs.eip insn len start t) → p.first.visited ≡ (b.cpu.regs.eip / 4096) ∷ []
       first_went p = fetching_went (not v.kernel) b.cpu.regs.eip (front_len b.cpu.regs.eip) start p.front p.first p.reads
 
-      by_end : (p : IsFetch (not v.kernel) b.cpu.regs.eip insn len start t) → IsIn b.cpu.regs.eip insn len p.front p.first t ⊎ IsPast (not v.kernel) b.cpu.regs.eip insn len p.front p.first t → Began insn len t
+      by_end : (p : IsFetch (not v.kernel) b.cpu.regs.eip insn len start t) → IsIn b.cpu.regs.eip insn len p.front p.first t
+          ⊎ IsPast (not v.kernel) b.cpu.regs.eip insn len p.front p.first t → Began insn len t
       by_end p (inl x) =
           let f = first_through m b v.kernel mode room fit sound small insn len t p in
           let w = f.through.within in
           let is = owns_in m b v.kernel mode room fit sound small insn len t p x in
           record {
-            within = subst (IsWithin m b v.kernel) is (within_as m b v.kernel p.first (record p.first { mode = Rattle.paging.specs.Uses.with_front p.first.mode (place p.first b.cpu.regs.eip) len }) w refl refl refl refl refl refl
-                (record { front = place p.first b.cpu.regs.eip; front_len = len; back = 0; back_len = 0 }) (ap (λ (y : Mode). Rattle.paging.specs.Uses.with_front y (place p.first b.cpu.regs.eip) len) w.mode));
+            within = subst (IsWithin m b v.kernel) is
+                (within_as m b v.kernel p.first
+                (record p.first { mode = Rattle.paging.specs.Uses.with_front p.first.mode (place p.first b.cpu.regs.eip) len }) w refl
+                refl refl refl refl refl
+                (record { front = place p.first b.cpu.regs.eip; front_len = len; back = 0; back_len = 0 })
+                (ap (λ (y : Mode). Rattle.paging.specs.Uses.with_front y (place p.first b.cpu.regs.eip) len) w.mode));
             pages = (b.cpu.regs.eip / 4096) ∷ [];
             visited = x.visited ∙ first_went p;
             shape = decoded_shaped p.front insn len x.is;
-            way = λ last th. inl (in_way m b v.kernel mode room fit sound small insn len t p x last (moved ((b.cpu.regs.eip / 4096) ∷ []) _ t last is th));
+            way =
+                λ last th. inl (in_way m b v.kernel mode room fit sound small insn len t p x last
+                (moved ((b.cpu.regs.eip / 4096) ∷ []) _ t last is th));
             way_pages = λ last th. refl;
           }
       by_end p (inr x) =
-          let visited : t.visited ≡ (b.cpu.regs.eip / 4096) ∷ (next_page b.cpu.regs.eip / 4096) ∷ [] = x.on.visited ∙ ap (λ (l : List ℕ). l ++ (next_page b.cpu.regs.eip / 4096) ∷ []) (first_went p) in
+          let visited : t.visited ≡ (b.cpu.regs.eip / 4096) ∷ (next_page b.cpu.regs.eip / 4096) ∷ [] =
+          x.on.visited ∙ ap (λ (l : List ℕ). l ++ (next_page b.cpu.regs.eip / 4096) ∷ []) (first_went p) in
           let c = subst (λ (l : List ℕ). Clear [] (map (used false) l ++ rest)) visited clear in
           let served = c.1.0 in
           let is = left_is m b v.kernel mode room fit sound small insn len t p x served in
@@ -158,7 +171,9 @@ module _ (flags : EffectLaws) (m : Setting) (v : View) (b : State) (mode : m.mod
             pages = (b.cpu.regs.eip / 4096) ∷ (next_page b.cpu.regs.eip / 4096) ∷ [];
             visited = visited;
             shape = decoded_shaped (p.front ++ x.on.more) insn len x.on.is;
-            way = λ last th. inr (across_way m b v.kernel mode room fit sound small insn len t p x served last (moved ((next_page b.cpu.regs.eip / 4096) ∷ (b.cpu.regs.eip / 4096) ∷ []) _ t last is th));
+            way =
+                λ last th. inr (across_way m b v.kernel mode room fit sound small insn len t p x served last
+                (moved ((next_page b.cpu.regs.eip / 4096) ∷ (b.cpu.regs.eip / 4096) ∷ []) _ t last is th));
             way_pages = λ last th. refl;
           }
 
@@ -175,20 +190,27 @@ module _ (flags : EffectLaws) (m : Setting) (v : View) (b : State) (mode : m.mod
   pub last_is : (r : Range) → 1 ≤ r.len → (r.at + r.len - 1) / 4096 ≡ last_page r
   last_is r some = ends_at r.at r.len some
 
-  ranged : (ps : List ℕ) (s t : Space) (write : Bool) (o : Option Range) → IsWithin m b v.kernel s → IsShort o → Clear ps (range_uses write o) → reached b.cpu write o s ≡ Ok (tt, t) → Ranged ps s t write o
+  ranged : (ps : List ℕ) (s t : Space) (write : Bool) (o : Option Range) → IsWithin m b v.kernel s → IsShort o
+      → Clear ps (range_uses write o) → reached b.cpu write o s ≡ Ok (tt, t) → Ranged ps s t write o
   unfolding RangeOf
   ranged ps s t write None h short c e =
       record { through = subst (Through m b v.kernel ps s) (nothing_reached s t e) (through_same m b v.kernel ps s h); range = tt }
   ranged ps s t write (Some r) h short c e =
-      let e2 : reaching r.at r.len (record { write = write; user = not v.kernel }) s ≡ Ok (tt, t) = ap (λ (u : Bool). reaching r.at r.len (record { write = write; user = u }) s) (sym user) ∙ e in
+      let e2 : reaching r.at r.len (record { write = write; user = not v.kernel }) s ≡ Ok (tt, t) =
+      ap (λ (u : Bool). reaching r.at r.len (record { write = write; user = u }) s) (sym user) ∙ e in
       let last = last_is r short.0 in
-      let g = range_through m b v.kernel ps s t write r.at r.len h short.0 c.0 (λ other there. second (last_page r == r.at / 4096) refl c.1 other there) e2 in
+      let g = range_through m b v.kernel ps s t write r.at r.len h short.0 c.0
+      (λ other there. second (last_page r == r.at / 4096) refl c.1 other there) e2 in
       record { through = g.through; range = g }
     where
-      second : (one : Bool) → (last_page r == r.at / 4096) ≡ one → AreClear b.set (not v.kernel) (wp_of b.cpu) ((r.at / 4096) ∷ ps) (cond one [] (used write (last_page r) ∷ []))
-          → ((r.at + r.len - 1) / 4096 == r.at / 4096) ≡ false → Contains ((r.at / 4096) ∷ ps) ((r.at + r.len - 1) / 4096) → IsServed m b v.kernel ((r.at + r.len - 1) / 4096) write
-      second true is d other there = absurd (both_ways ((r.at + r.len - 1) / 4096 == r.at / 4096) other (ap (λ p. p == r.at / 4096) (last_is r short.0) ∙ is))
-      second false is d other there = subst (λ p. IsServed m b v.kernel p write) (sym (last_is r short.0)) (d.0 (subst (Contains ((r.at / 4096) ∷ ps)) (last_is r short.0) there))
+      second : (one : Bool) → (last_page r == r.at / 4096) ≡ one → AreClear b.set (not v.kernel) (wp_of b.cpu) ((r.at / 4096) ∷ ps)
+          (cond one [] (used write (last_page r) ∷ []))
+          → ((r.at + r.len - 1) / 4096 == r.at / 4096) ≡ false → Contains ((r.at / 4096) ∷ ps) ((r.at + r.len - 1) / 4096)
+          → IsServed m b v.kernel ((r.at + r.len - 1) / 4096) write
+      second true is d other there =
+          absurd (both_ways ((r.at + r.len - 1) / 4096 == r.at / 4096) other (ap (λ p. p == r.at / 4096) (last_is r short.0) ∙ is))
+      second false is d other there = subst (λ p. IsServed m b v.kernel p write) (sym (last_is r short.0))
+          (d.0 (subst (Contains ((r.at / 4096) ∷ ps)) (last_is r short.0) there))
 
   -- the entries of a range at the end of the translations
   pub record HasRange (last : Space) (write : Bool) (r : Range) : Type 0 where
@@ -201,20 +223,25 @@ module _ (flags : EffectLaws) (m : Setting) (v : View) (b : State) (mode : m.mod
     pub has_last : HasEntry v.kernel (wp_of b.cpu) last.set write ((r.at + r.len - 1) / 4096) last_frame
     pub free_last : IsFree m b v.kernel false ((r.at + r.len - 1) / 4096) last_frame
 
-  above_of : (s : Space) → IsWithin m b v.kernel s → (write : Bool) (at : ℕ) → window_stop s.mode (record { write = write; user = not v.kernel }) at ≡ None → v.kernel ≡ true → 0x11000000 ≤ at
-  above_of s h write at e = window_above v.kernel at (ap (λ (x : Mode). window_stop x (record { write = write; user = not v.kernel }) at) (sym h.mode) ∙ e)
+  above_of : (s : Space) → IsWithin m b v.kernel s → (write : Bool) (at : ℕ)
+      → window_stop s.mode (record { write = write; user = not v.kernel }) at ≡ None → v.kernel ≡ true → 0x11000000 ≤ at
+  above_of s h write at e =
+      window_above v.kernel at (ap (λ (x : Mode). window_stop x (record { write = write; user = not v.kernel }) at) (sym h.mode) ∙ e)
 
   first_before : (ps : List ℕ) (write : Bool) (r : Range) → Before (after ps (range_uses write (Some r))) (r.at / 4096)
-  first_before ps write r = before_after (cond (last_page r == r.at / 4096) [] (used write (last_page r) ∷ [])) ((r.at / 4096) ∷ ps) (r.at / 4096) (inl refl)
+  first_before ps write r =
+      before_after (cond (last_page r == r.at / 4096) [] (used write (last_page r) ∷ [])) ((r.at / 4096) ∷ ps) (r.at / 4096) (inl refl)
 
   last_before : (ps : List ℕ) (write : Bool) (r : Range) → Before (after ps (range_uses write (Some r))) (last_page r)
   last_before ps write r = choice (last_page r == r.at / 4096) refl
     where
-      choice : (one : Bool) → (last_page r == r.at / 4096) ≡ one → Before (after ((r.at / 4096) ∷ ps) (cond one [] (used write (last_page r) ∷ []))) (last_page r)
+      choice : (one : Bool) → (last_page r == r.at / 4096) ≡ one
+          → Before (after ((r.at / 4096) ∷ ps) (cond one [] (used write (last_page r) ∷ []))) (last_page r)
       choice true e = inl (sym (eqb-true (last_page r) (r.at / 4096) e))
       choice false e = inl refl
 
-  now : (ps : List ℕ) (s t : Space) (write : Bool) (r : Range) → IsWithin m b v.kernel s → RangeThrough m b v.kernel ps s t write r.at r.len → HasRange t write r
+  now : (ps : List ℕ) (s t : Space) (write : Bool) (r : Range) → IsWithin m b v.kernel s → RangeThrough m b v.kernel ps s t write r.at r.len
+      → HasRange t write r
   now ps s t write r h g = record {
     fits = g.fits;
     above = above_of s h write r.at g.window;
@@ -226,7 +253,8 @@ module _ (flags : EffectLaws) (m : Setting) (v : View) (b : State) (mode : m.mod
     free_last = g.free_last;
   }
 
-  later : (ps : List ℕ) (t last : Space) (write : Bool) (r : Range) → 1 ≤ r.len → HasRange t write r → Through m b v.kernel (after ps (range_uses write (Some r))) t last → HasRange last write r
+  later : (ps : List ℕ) (t last : Space) (write : Bool) (r : Range) → 1 ≤ r.len → HasRange t write r
+      → Through m b v.kernel (after ps (range_uses write (Some r))) t last → HasRange last write r
   later ps t last write r some g th = record {
     fits = g.fits;
     above = g.above;
@@ -234,7 +262,8 @@ module _ (flags : EffectLaws) (m : Setting) (v : View) (b : State) (mode : m.mod
     has_first = th.kept (r.at / 4096) write g.first (first_before ps write r) g.has_first;
     free_first = g.free_first;
     last_frame = g.last_frame;
-    has_last = th.kept ((r.at + r.len - 1) / 4096) write g.last_frame (subst (Before (after ps (range_uses write (Some r)))) (sym (last_is r some)) (last_before ps write r)) g.has_last;
+    has_last = th.kept ((r.at + r.len - 1) / 4096) write g.last_frame
+        (subst (Before (after ps (range_uses write (Some r)))) (sym (last_is r some)) (last_before ps write r)) g.has_last;
     free_last = g.free_last;
   }
 
@@ -242,12 +271,14 @@ module _ (flags : EffectLaws) (m : Setting) (v : View) (b : State) (mode : m.mod
   HasRanges last write None = Unit {0}
   HasRanges last write (Some r) = HasRange last write r
 
-  has_now : (ps : List ℕ) (s t : Space) (write : Bool) (o : Option Range) → IsWithin m b v.kernel s → Ranged ps s t write o → HasRanges t write o
+  has_now : (ps : List ℕ) (s t : Space) (write : Bool) (o : Option Range) → IsWithin m b v.kernel s → Ranged ps s t write o
+      → HasRanges t write o
   unfolding RangeOf HasRanges
   has_now ps s t write None h g = tt
   has_now ps s t write (Some r) h g = now ps s t write r h g.range
 
-  has_later : (ps : List ℕ) (t last : Space) (write : Bool) (o : Option Range) → IsShort o → HasRanges t write o → Through m b v.kernel (after ps (range_uses write o)) t last → HasRanges last write o
+  has_later : (ps : List ℕ) (t last : Space) (write : Bool) (o : Option Range) → IsShort o → HasRanges t write o
+      → Through m b v.kernel (after ps (range_uses write o)) t last → HasRanges last write o
   unfolding HasRanges
   has_later ps t last write None short g th = tt
   has_later ps t last write (Some r) short g th = later ps t last write r short.0 g th
@@ -258,42 +289,62 @@ module _ (flags : EffectLaws) (m : Setting) (v : View) (b : State) (mode : m.mod
     abbrev a : State
     a = settled b last
 
-    range_again : (s : Space) (write : Bool) (r : Range) → At m (settled b last) s → HasRange last write r → Comes m (settled b last) tt (reaching r.at r.len (record { write = write; user = b.cpu.cpl == 3 }) s)
+    range_again : (s : Space) (write : Bool) (r : Range) → At m (settled b last) s → HasRange last write r
+        → Comes m (settled b last) tt (reaching r.at r.len (record { write = write; user = b.cpu.cpl == 3 }) s)
     range_again s write r h g =
-        let p = range_passes m (settled b last) v.kernel s r.at r.len write g.first g.last_frame h g.fits g.above g.has_first g.free_first g.has_last g.free_last in
+        let p = range_passes m (settled b last) v.kernel s r.at r.len write g.first g.last_frame h g.fits g.above g.has_first g.free_first
+        g.has_last g.free_last in
         let c = reaching_comes m (settled b last) v.kernel s r.at r.len write p in
-        record { space = c.space; is = ap (λ (u : Bool). reaching r.at r.len (record { write = write; user = u }) s) user ∙ c.is; at = c.at }
+        record {
+          space = c.space;
+          is = ap (λ (u : Bool). reaching r.at r.len (record { write = write; user = u }) s) user ∙ c.is;
+          at = c.at;
+        }
 
-    reached_again : (s : Space) (write : Bool) (o : Option Range) → At m (settled b last) s → HasRanges last write o → Comes m (settled b last) tt (reached b.cpu write o s)
+    reached_again : (s : Space) (write : Bool) (o : Option Range) → At m (settled b last) s → HasRanges last write o
+        → Comes m (settled b last) tt (reached b.cpu write o s)
     unfolding HasRanges
     reached_again s write None h g = record { space = s; is = refl; at = h }
     reached_again s write (Some r) h g = range_again s write r h g
 
     at_start : At m (settled b last) (space_at_start m.mode m.frames b.cpu last.ram last.set)
-    at_start = record { ram = refl; set = refl; wp = refl; visited = λ q c. absurd (let lt = c.1 in omega (arith, lt)); tables = refl; own = no_own; mode = mode }
+    at_start = record {
+      ram = refl;
+      set = refl;
+      wp = refl;
+      visited = λ q c. absurd (let lt = c.1 in omega (arith, lt));
+      tables = refl;
+      own = no_own;
+      mode = mode;
+    }
 
   -- an address of a range has the same place then
-  place_of : (s : Space) (write : Bool) (page frame x : ℕ) → x / 4096 ≡ page → HasEntry v.kernel (wp_of b.cpu) s.set write page frame → place s x ≡ 4096 * frame + x % 4096
+  place_of : (s : Space) (write : Bool) (page frame x : ℕ) → x / 4096 ≡ page → HasEntry v.kernel (wp_of b.cpu) s.set write page frame
+      → place s x ≡ 4096 * frame + x % 4096
   unfolding place
   place_of s write page frame x e h =
       let sum : h.entry.frame * 4096 + x % 4096 ≡ 4096 * frame + x % 4096 = in_frame h.entry.frame frame x h.frame_is in
       ap (λ p. place_by (get s.set p) x) e ∙ ap (λ (o : Option Entry). place_by o x) h.kept ∙ sum
 
-  places_same : (s t : Space) (write : Bool) (r : Range) → 1 ≤ r.len → r.len ≤ 32 → (g : HasRange s write r) (h : HasRange t write r) → g.first ≡ h.first → g.last_frame ≡ h.last_frame → (j : ℕ) → j < r.len → place s (r.at + j) ≡ place t (r.at + j)
+  places_same : (s t : Space) (write : Bool) (r : Range) → 1 ≤ r.len → r.len ≤ 32 → (g : HasRange s write r) (h : HasRange t write r)
+      → g.first ≡ h.first → g.last_frame ≡ h.last_frame → (j : ℕ) → j < r.len → place s (r.at + j) ≡ place t (r.at + j)
   places_same s t write r some few g h one two j lt =
       elim (cases_lt ((r.at + j) / 4096) (r.at / 4096 + 1)) [
         | inl below ↦
             let page : (r.at + j) / 4096 ≡ r.at / 4096 = in_first r.at j below in
-            place_of s write (r.at / 4096) g.first (r.at + j) page g.has_first ∙ ap (λ f. 4096 * f + (r.at + j) % 4096) one ∙ sym (place_of t write (r.at / 4096) h.first (r.at + j) page h.has_first)
+            place_of s write (r.at / 4096) g.first (r.at + j) page g.has_first ∙ ap (λ f. 4096 * f + (r.at + j) % 4096) one
+            ∙ sym (place_of t write (r.at / 4096) h.first (r.at + j) page h.has_first)
         | inr above ↦
             let page : (r.at + j) / 4096 ≡ (r.at + r.len - 1) / 4096 = in_last r.at r.len j above lt few in
-            place_of s write ((r.at + r.len - 1) / 4096) g.last_frame (r.at + j) page g.has_last ∙ ap (λ f. 4096 * f + (r.at + j) % 4096) two
+            place_of s write ((r.at + r.len - 1) / 4096) g.last_frame (r.at + j) page g.has_last
+            ∙ ap (λ f. 4096 * f + (r.at + j) % 4096) two
             ∙ sym (place_of t write ((r.at + r.len - 1) / 4096) h.last_frame (r.at + j) page h.has_last)
       ]
 
   -- ---- the step
 
-  module _ (insn : Insn) (len : ℕ) (fetch read write : Space) (t : IsTranslated m b insn len fetch read write) (clear : AreClear b.set (b.cpu.cpl == 3) (wp_of b.cpu) [] (uses_of fetch.visited (ranges_of insn b.cpu.regs))) where
+  module _ (insn : Insn) (len : ℕ) (fetch read write : Space) (t : IsTranslated m b insn len fetch read write)
+      (clear : AreClear b.set (b.cpu.cpl == 3) (wp_of b.cpu) [] (uses_of fetch.visited (ranges_of insn b.cpu.regs))) where
     abbrev reads : Option Range
     reads = (ranges_of insn b.cpu.regs).read
 
@@ -317,9 +368,11 @@ module _ (flags : EffectLaws) (m : Setting) (v : View) (b : State) (mode : m.mod
 
     rest : Clear fetch_pages (range_uses false reads) × Clear (after fetch_pages (range_uses false reads)) (range_uses true writes)
     rest =
-        let c = subst (λ (l : List ℕ). Clear [] (map (used false) l ++ (range_uses false reads ++ range_uses true writes))) first.visited all_clear in
+        let c = subst (λ (l : List ℕ). Clear [] (map (used false) l ++ (range_uses false reads ++ range_uses true writes)))
+        first.visited all_clear in
         clear_split b.set (not v.kernel) (wp_of b.cpu) (range_uses false reads) (range_uses true writes) fetch_pages
-        (clear_split b.set (not v.kernel) (wp_of b.cpu) (map (used false) first.pages) (range_uses false reads ++ range_uses true writes) [] c).1
+        (clear_split b.set (not v.kernel) (wp_of b.cpu) (map (used false) first.pages)
+        (range_uses false reads ++ range_uses true writes) [] c).1
 
     abbrev read_pages : List ℕ
     read_pages = after fetch_pages (range_uses false reads)
@@ -331,7 +384,8 @@ module _ (flags : EffectLaws) (m : Setting) (v : View) (b : State) (mode : m.mod
     third = ranged read_pages read write true writes second.through.within short.1 rest.1 t.write
 
     pub whole : Through m b v.kernel fetch_pages fetch write
-    whole = through_on m b v.kernel fetch_pages read_pages fetch read write second.through third.through (before_after (range_uses false reads) fetch_pages)
+    whole = through_on m b v.kernel fetch_pages read_pages fetch read write second.through third.through
+        (before_after (range_uses false reads) fetch_pages)
 
     -- their entries at the end
     read_now : HasRanges read false reads
@@ -345,8 +399,10 @@ module _ (flags : EffectLaws) (m : Setting) (v : View) (b : State) (mode : m.mod
 
     -- ---- again
 
-    again_fetch : Comes m (settled b write) (begins.Insn insn len) (fetched (not v.kernel) b.cpu.regs.eip (space_at_start m.mode m.frames b.cpu write.ram write.set))
-    again_fetch = fetched_comes m (settled b write) v.kernel (space_at_start m.mode m.frames b.cpu write.ram write.set) b.cpu.regs.eip insn len (at_start write) (first.way write whole)
+    again_fetch : Comes m (settled b write) (begins.Insn insn len)
+        (fetched (not v.kernel) b.cpu.regs.eip (space_at_start m.mode m.frames b.cpu write.ram write.set))
+    again_fetch = fetched_comes m (settled b write) v.kernel (space_at_start m.mode m.frames b.cpu write.ram write.set) b.cpu.regs.eip insn
+        len (at_start write) (first.way write whole)
 
     again_read : Comes m (settled b write) tt (reached b.cpu false reads again_fetch.space)
     again_read = reached_again write again_fetch.space false reads again_fetch.at read_end
@@ -356,7 +412,8 @@ module _ (flags : EffectLaws) (m : Setting) (v : View) (b : State) (mode : m.mod
 
     again_translated : IsTranslated m (settled b write) insn len again_fetch.space again_read.space again_write.space
     again_translated = record {
-      fetched = ap (λ (u : Bool). fetched u b.cpu.regs.eip (space_at_start m.mode m.frames b.cpu write.ram write.set)) user ∙ again_fetch.is;
+      fetched =
+          ap (λ (u : Bool). fetched u b.cpu.regs.eip (space_at_start m.mode m.frames b.cpu write.ram write.set)) user ∙ again_fetch.is;
       permitted = t.permitted;
       plain = t.plain;
       segments = t.segments;
@@ -370,7 +427,8 @@ module _ (flags : EffectLaws) (m : Setting) (v : View) (b : State) (mode : m.mod
         ∙ ap (λ (l : List ℕ). went_after l writes)
         (range_goes b.cpu again_fetch.space again_read.space false reads again_read.is
         ∙ ap (λ (l : List ℕ). went_after l reads)
-        (way_went m (settled b write) v.kernel (space_at_start m.mode m.frames b.cpu write.ram write.set) again_fetch.space b.cpu.regs.eip insn len (at_start write) refl (first.way write whole) again_fetch.is
+        (way_went m (settled b write) v.kernel (space_at_start m.mode m.frames b.cpu write.ram write.set) again_fetch.space b.cpu.regs.eip
+        insn len (at_start write) refl (first.way write whole) again_fetch.is
         ∙ first.way_pages write whole
         ∙ sym first.visited)
         ∙ sym (range_goes b.cpu fetch read false reads t.read))
@@ -378,7 +436,8 @@ module _ (flags : EffectLaws) (m : Setting) (v : View) (b : State) (mode : m.mod
 
     -- ---- over the same bytes
 
-    read_places : (o : Option Range) → IsShort o → (ps : List ℕ) → HasRanges read false o → Through m b v.kernel (after ps (range_uses false o)) read write → (x : ℕ) → is_in o x ≡ true → place read x ≡ place write x
+    read_places : (o : Option Range) → IsShort o → (ps : List ℕ) → HasRanges read false o
+        → Through m b v.kernel (after ps (range_uses false o)) read write → (x : ℕ) → is_in o x ≡ true → place read x ≡ place write x
     unfolding HasRanges later
     read_places None sh ps g th x e = absurd (both_ways false refl e)
     read_places (Some r) sh ps g th x e =
@@ -387,7 +446,8 @@ module _ (flags : EffectLaws) (m : Setting) (v : View) (b : State) (mode : m.mod
         let high = ltb-true x (r.at + r.len) p.1 in
         let sum : r.at + (x - r.at) ≡ x = past_at r.at x low in
         subst (λ y. place read y ≡ place write y) sum
-        (places_same read write false r sh.0 sh.1 g (later ps read write false r sh.0 g th) refl refl (x - r.at) (past_in r.at r.len x low high))
+        (places_same read write false r sh.0 sh.1 g (later ps read write false r sh.0 g th) refl refl (x - r.at)
+        (past_in r.at r.len x low high))
 
     byte_there : (x : ℕ) → byte_at write x ≡ byte_of (settled b write) x
     unfolding byte_at place
@@ -400,21 +460,32 @@ module _ (flags : EffectLaws) (m : Setting) (v : View) (b : State) (mode : m.mod
     pub bytes_same : (x : ℕ) → byte_by reads read write x ≡ byte_of (settled b write) x
     bytes_same x = choice (is_in reads x) refl
       where
-        choice : (i : Bool) → is_in reads x ≡ i → cond i (byte_at (with_ram read write.ram) x) (byte_at write x) ≡ byte_of (settled b write) x
+        choice : (i : Bool) → is_in reads x ≡ i → cond i (byte_at (with_ram read write.ram) x) (byte_at write x)
+            ≡ byte_of (settled b write) x
         choice true e = byte_read x (read_places reads short.0 fetch_pages read_now third.through x e)
         choice false e = byte_there x
 
     again_byte : (s : Space) → At m (settled b write) s → (x : ℕ) → byte_at s x ≡ byte_of (settled b write) x
     unfolding byte_at place
-    again_byte s h x = ap (λ (l : List ℕ). byte l (place_by (get s.set (x / 4096)) x)) h.ram ∙ ap (λ (y : FinMap nat_cmp Entry). byte write.ram (place_by (get y (x / 4096)) x)) h.set
+    again_byte s h x = ap (λ (l : List ℕ). byte l (place_by (get s.set (x / 4096)) x)) h.ram
+        ∙ ap (λ (y : FinMap nat_cmp Entry). byte write.ram (place_by (get y (x / 4096)) x)) h.set
 
     again_bytes : (x : ℕ) → byte_by reads again_read.space again_write.space x ≡ byte_of (settled b write) x
     again_bytes x = choice (is_in reads x)
       where
         mixed : At m (settled b write) (with_ram again_read.space again_write.space.ram)
-        mixed = record { ram = again_write.at.ram; set = again_read.at.set; wp = again_read.at.wp; visited = again_read.at.visited; tables = again_read.at.tables; own = again_read.at.own; mode = again_read.at.mode }
+        mixed = record {
+          ram = again_write.at.ram;
+          set = again_read.at.set;
+          wp = again_read.at.wp;
+          visited = again_read.at.visited;
+          tables = again_read.at.tables;
+          own = again_read.at.own;
+          mode = again_read.at.mode;
+        }
 
-        choice : (i : Bool) → cond i (byte_at (with_ram again_read.space again_write.space.ram) x) (byte_at again_write.space x) ≡ byte_of (settled b write) x
+        choice : (i : Bool) → cond i (byte_at (with_ram again_read.space again_write.space.ram) x) (byte_at again_write.space x)
+            ≡ byte_of (settled b write) x
         choice true = again_byte (with_ram again_read.space again_write.space.ram) mixed x
         choice false = again_byte again_write.space again_write.at x
 
@@ -436,55 +507,94 @@ module _ (flags : EffectLaws) (m : Setting) (v : View) (b : State) (mode : m.mod
     abbrev finish : List ℕ → FinMap nat_cmp Entry → List ℕ → List ℕ → List ℕ → Regs → Stores → Result
     finish ram set visited tables wrote regs stores =
         after_instruction m (unheld b) (begun b insn)
-        (user_finished (unheld b).cpu (outcomes.Done regs Nothing) (record write { ram = all_stored (λ x. place_by (get set (x / 4096)) x) ram (list_of stores); set = set; visited = visited; tables = tables; wrote = wrote }))
+        (user_finished (unheld b).cpu (outcomes.Done regs Nothing)
+        (record write {
+          ram = all_stored (λ x. place_by (get set (x / 4096)) x) ram (list_of stores);
+          set = set;
+          visited = visited;
+          tables = tables;
+          wrote = wrote;
+        }))
 
-    finished_is : (s : Space) (regs : Regs) (stores : Stores) → after_instruction m (unheld b) (begun b insn) (user_finished (unheld b).cpu (outcomes.Done regs stores) s) ≡ finish s.ram s.set s.visited s.tables s.wrote regs stores
+    finished_is : (s : Space) (regs : Regs) (stores : Stores)
+        → after_instruction m (unheld b) (begun b insn) (user_finished (unheld b).cpu (outcomes.Done regs stores) s) ≡ finish s.ram s.set
+        s.visited s.tables s.wrote regs stores
     unfolding place
     finished_is s regs stores =
-        ap (λ (x : Space). after_instruction m (unheld b) (begun b insn) (Ok (record { cpu = record (unheld b).cpu { regs = regs }; effect = effects.Next }, x))) (stored_is s (list_of stores))
+        ap (λ (x : Space). after_instruction m (unheld b) (begun b insn)
+        (Ok (record { cpu = record (unheld b).cpu { regs = regs }; effect = effects.Next }, x))) (stored_is s (list_of stores))
 
     -- with other notes
-    noted : (ram : List ℕ) (set : FinMap nat_cmp Entry) (visited tables wrote others news : List ℕ) (regs : Regs) (stores : Stores) (report : Report) (after_state : State)
-        → finish ram set visited tables wrote regs stores ≡ Went report after_state → finish ram set visited others news regs stores ≡ Went (record report { tables = others; wrote = news }) after_state
-    noted ram set visited tables wrote others news regs stores report after_state e = by_test (Rattle.machine_model.specs.Rules.may_leave m.mode (unheld b).cpu (record (unheld b).cpu { regs = regs })) e
+    noted : (ram : List ℕ) (set : FinMap nat_cmp Entry) (visited tables wrote others news : List ℕ) (regs : Regs) (stores : Stores)
+        (report : Report) (after_state : State)
+        → finish ram set visited tables wrote regs stores ≡ Went report after_state → finish ram set visited others news regs stores ≡ Went
+        (record report { tables = others; wrote = news }) after_state
+    noted ram set visited tables wrote others news regs stores report after_state e =
+        by_test (Rattle.machine_model.specs.Rules.may_leave m.mode (unheld b).cpu (record (unheld b).cpu { regs = regs })) e
       where
         by_test : (c : Bool) → cond {A = Result} c
             (Went (record { items = []; completed = Some (begun b insn); pages = visited; tables = tables; wrote = wrote })
-            (record { cpu = record (unheld b).cpu { regs = regs }; ram = all_stored (λ x. place_by (get set (x / 4096)) x) ram (list_of stores); set = set; board = Rattle.board.specs.Boards.board_step b.board; step = b.step + 1 })) (Halts stops.UserFlags) ≡ Went report after_state
+            (record {
+              cpu = record (unheld b).cpu { regs = regs };
+              ram = all_stored (λ x. place_by (get set (x / 4096)) x) ram (list_of stores);
+              set = set;
+              board = Rattle.board.specs.Boards.board_step b.board;
+              step = b.step + 1;
+            })) (Halts stops.UserFlags) ≡ Went report after_state
             → cond {A = Result} c
             (Went (record { items = []; completed = Some (begun b insn); pages = visited; tables = others; wrote = news })
-            (record { cpu = record (unheld b).cpu { regs = regs }; ram = all_stored (λ x. place_by (get set (x / 4096)) x) ram (list_of stores); set = set; board = Rattle.board.specs.Boards.board_step b.board; step = b.step + 1 })) (Halts stops.UserFlags)
+            (record {
+              cpu = record (unheld b).cpu { regs = regs };
+              ram = all_stored (λ x. place_by (get set (x / 4096)) x) ram (list_of stores);
+              set = set;
+              board = Rattle.board.specs.Boards.board_step b.board;
+              step = b.step + 1;
+            })) (Halts stops.UserFlags)
             ≡ Went (record report { tables = others; wrote = news }) after_state
         by_test true g = ap (λ (o : Result). renoted others news o) g
         by_test false g = absurd (halts_or_went _ _ _ g)
 
     -- what is reported
-    told : (ram : List ℕ) (set : FinMap nat_cmp Entry) (visited tables wrote : List ℕ) (regs : Regs) (stores : Stores) (report : Report) (after_state : State)
-        → finish ram set visited tables wrote regs stores ≡ Went report after_state → (report.pages ≡ visited) × (report.tables ≡ tables) × (report.wrote ≡ wrote)
-    told ram set visited tables wrote regs stores report after_state e = by_test (Rattle.machine_model.specs.Rules.may_leave m.mode (unheld b).cpu (record (unheld b).cpu { regs = regs })) e
+    told : (ram : List ℕ) (set : FinMap nat_cmp Entry) (visited tables wrote : List ℕ) (regs : Regs) (stores : Stores) (report : Report)
+        (after_state : State)
+        → finish ram set visited tables wrote regs stores ≡ Went report after_state → (report.pages ≡ visited) × (report.tables ≡ tables)
+        × (report.wrote ≡ wrote)
+    told ram set visited tables wrote regs stores report after_state e =
+        by_test (Rattle.machine_model.specs.Rules.may_leave m.mode (unheld b).cpu (record (unheld b).cpu { regs = regs })) e
       where
         by_test : (c : Bool) → cond {A = Result} c
             (Went (record { items = []; completed = Some (begun b insn); pages = visited; tables = tables; wrote = wrote })
-            (record { cpu = record (unheld b).cpu { regs = regs }; ram = all_stored (λ x. place_by (get set (x / 4096)) x) ram (list_of stores); set = set; board = Rattle.board.specs.Boards.board_step b.board; step = b.step + 1 })) (Halts stops.UserFlags) ≡ Went report after_state
+            (record {
+              cpu = record (unheld b).cpu { regs = regs };
+              ram = all_stored (λ x. place_by (get set (x / 4096)) x) ram (list_of stores);
+              set = set;
+              board = Rattle.board.specs.Boards.board_step b.board;
+              step = b.step + 1;
+            })) (Halts stops.UserFlags) ≡ Went report after_state
             → (report.pages ≡ visited) × (report.tables ≡ tables) × (report.wrote ≡ wrote)
-        by_test true g = let f = sym (ap (λ (o : Result). report_in report o) g) in (ap (λ (r : Report). r.pages) f, ap (λ (r : Report). r.tables) f, ap (λ (r : Report). r.wrote) f)
+        by_test true g = let f = sym (ap (λ (o : Result). report_in report o) g) in
+            (ap (λ (r : Report). r.pages) f, ap (λ (r : Report). r.tables) f, ap (λ (r : Report). r.wrote) f)
         by_test false g = absurd (halts_or_went _ _ _ g)
 
     -- the effect over the step's bytes is that over the bytes of the state that is left
     same_effect : user_effect (selectors_of v) insn len b.cpu.regs (byte_by reads read write) ≡ effect_of v (settled b write) insn len
     same_effect =
         flags.same (byte_by reads read write) (byte_of (settled b write)) (selectors_of v) insn len b.cpu.regs first.shape
-        (all (λ x. byte_by reads read write x ≡ byte_of (settled b write) x) reads bytes_same) (all (λ x. byte_by reads read write x ≡ byte_of (settled b write) x) writes bytes_same)
+        (all (λ x. byte_by reads read write x ≡ byte_of (settled b write) x) reads bytes_same)
+        (all (λ x. byte_by reads read write x ≡ byte_of (settled b write) x) writes bytes_same)
 
-    pub outcome : stepped m b ≡ after_instruction m (unheld b) (begun b insn) (user_finished (unheld b).cpu (effect_of v (settled b write) insn len) write)
+    pub outcome : stepped m b ≡ after_instruction m (unheld b) (begun b insn)
+        (user_finished (unheld b).cpu (effect_of v (settled b write) insn len) write)
     outcome =
         stepped_by m v.kernel b sees.level next
         ∙ ap (after_fetch m (unheld b)) t.fetched
         ∙ by_op_is m insn.op (unheld b) insn len fetch soft
-        ∙ instructed_is m (unheld b) (begun b insn) flags.agree (selectors_of v) (unheld b).cpu (selects_by v b.cpu sees) fetch read write insn len user_held first.shape t.permitted (record { free = t.segments; read = t.read; write = t.write })
+        ∙ instructed_is m (unheld b) (begun b insn) flags.agree (selectors_of v) (unheld b).cpu (selects_by v b.cpu sees) fetch read write
+        insn len user_held first.shape t.permitted (record { free = t.segments; read = t.read; write = t.write })
         ∙ ap (λ (o : exec.Outcome). after_instruction m (unheld b) (begun b insn) (user_finished (unheld b).cpu o write)) same_effect
 
-    original : (regs : Regs) (stores : Stores) → effect_of v (settled b write) insn len ≡ outcomes.Done regs stores → stepped m b ≡ finish write.ram write.set write.visited write.tables write.wrote regs stores
+    original : (regs : Regs) (stores : Stores) → effect_of v (settled b write) insn len ≡ outcomes.Done regs stores
+        → stepped m b ≡ finish write.ram write.set write.visited write.tables write.wrote regs stores
     original regs stores e =
         outcome
         ∙ ap (λ (o : exec.Outcome). after_instruction m (unheld b) (begun b insn) (user_finished (unheld b).cpu o write)) e
@@ -493,16 +603,22 @@ module _ (flags : EffectLaws) (m : Setting) (v : View) (b : State) (mode : m.mod
     next_again : IsNext m v.kernel (settled b write)
     next_again = record { awake = next.awake; quiet = next.quiet; small = next.small; start = next.start; outside = next.outside }
 
-    repeated : (regs : Regs) (stores : Stores) → effect_of v (settled b write) insn len ≡ outcomes.Done regs stores → stepped m (settled b write) ≡ finish again_write.space.ram again_write.space.set again_write.space.visited again_write.space.tables again_write.space.wrote regs stores
+    repeated : (regs : Regs) (stores : Stores) → effect_of v (settled b write) insn len ≡ outcomes.Done regs stores
+        → stepped m (settled b write) ≡ finish again_write.space.ram again_write.space.set again_write.space.visited
+        again_write.space.tables again_write.space.wrote regs stores
     repeated regs stores e =
         stepped_by m v.kernel (settled b write) sees.level next_again
         ∙ ap (after_fetch m (unheld (settled b write))) again_translated.fetched
         ∙ by_op_is m insn.op (unheld (settled b write)) insn len again_fetch.space soft
-        ∙ instructed_is m (unheld (settled b write)) (begun b insn) flags.agree (selectors_of v) (unheld b).cpu (selects_by v b.cpu sees) again_fetch.space again_read.space again_write.space insn len user_held first.shape t.permitted
+        ∙ instructed_is m (unheld (settled b write)) (begun b insn) flags.agree (selectors_of v) (unheld b).cpu (selects_by v b.cpu sees)
+        again_fetch.space again_read.space again_write.space insn len user_held first.shape t.permitted
         (record { free = t.segments; read = again_read.is; write = again_write.is })
-        ∙ ap (λ (o : exec.Outcome). after_instruction m (unheld (settled b write)) (begun b insn) (user_finished (unheld b).cpu o again_write.space))
-        (flags.same (byte_by reads again_read.space again_write.space) (byte_of (settled b write)) (selectors_of v) insn len b.cpu.regs first.shape
-        (all (λ x. byte_by reads again_read.space again_write.space x ≡ byte_of (settled b write) x) reads again_bytes) (all (λ x. byte_by reads again_read.space again_write.space x ≡ byte_of (settled b write) x) writes again_bytes) ∙ e)
+        ∙ ap (λ (o : exec.Outcome). after_instruction m (unheld (settled b write)) (begun b insn)
+        (user_finished (unheld b).cpu o again_write.space))
+        (flags.same (byte_by reads again_read.space again_write.space) (byte_of (settled b write)) (selectors_of v) insn len
+        b.cpu.regs first.shape
+        (all (λ x. byte_by reads again_read.space again_write.space x ≡ byte_of (settled b write) x) reads again_bytes)
+        (all (λ x. byte_by reads again_read.space again_write.space x ≡ byte_of (settled b write) x) writes again_bytes) ∙ e)
         ∙ finished_is again_write.space regs stores
 
     pub steps_same : StepsAgain m v b insn len write
@@ -515,13 +631,19 @@ module _ (flags : EffectLaws) (m : Setting) (v : View) (b : State) (mode : m.mod
       set = again_write.at.set;
       visited = same_went;
       same = λ regs stores e report after_state g.
-          let there : finish write.ram write.set write.visited again_write.space.tables again_write.space.wrote regs stores ≡ Went report after_state =
-          ap (λ (l : List ℕ). finish l write.set write.visited again_write.space.tables again_write.space.wrote regs stores) (sym again_write.at.ram)
-          ∙ ap (λ (x : FinMap nat_cmp Entry). finish again_write.space.ram x write.visited again_write.space.tables again_write.space.wrote regs stores) (sym again_write.at.set)
-          ∙ ap (λ (l : List ℕ). finish again_write.space.ram again_write.space.set l again_write.space.tables again_write.space.wrote regs stores) (sym same_went)
+          let there : finish write.ram write.set write.visited again_write.space.tables again_write.space.wrote regs stores ≡ Went
+          report after_state =
+          ap (λ (l : List ℕ). finish l write.set write.visited again_write.space.tables again_write.space.wrote regs stores)
+          (sym again_write.at.ram)
+          ∙ ap (λ (x : FinMap nat_cmp Entry). finish again_write.space.ram x write.visited again_write.space.tables again_write.space.wrote
+          regs stores) (sym again_write.at.set)
+          ∙ ap (λ (l : List ℕ). finish again_write.space.ram again_write.space.set l again_write.space.tables again_write.space.wrote regs
+          stores) (sym same_went)
           ∙ sym (repeated regs stores e)
           ∙ g in
           original regs stores e
-          ∙ noted write.ram write.set write.visited again_write.space.tables again_write.space.wrote write.tables write.wrote regs stores report after_state there;
-      reported = λ regs stores e report after_state g. told write.ram write.set write.visited write.tables write.wrote regs stores report after_state (sym (original regs stores e) ∙ g);
+          ∙ noted write.ram write.set write.visited again_write.space.tables again_write.space.wrote write.tables write.wrote regs stores
+          report after_state there;
+      reported = λ regs stores e report after_state g. told write.ram write.set write.visited write.tables write.wrote regs stores report
+          after_state (sym (original regs stores e) ∙ g);
     }

@@ -29,7 +29,8 @@ use Rattle.native_steps.proofs.Shown.{IsApart, frame_apart, byte_shown}
 -- ---- rights
 
 read_rights : (u h write : Bool) (f frame : ℕ)
-    → cond {A = Option ℕ} ((u || false) && (not write || (h || false))) (Some f) None ≡ Some frame → cond {A = Option ℕ} ((u || false) && (not false || (h || false))) (Some f) None ≡ Some frame
+    → cond {A = Option ℕ} ((u || false) && (not write || (h || false))) (Some f) None ≡ Some frame
+    → cond {A = Option ℕ} ((u || false) && (not false || (h || false))) (Some f) None ≡ Some frame
 read_rights true h false f frame e = cc
 read_rights true true true f frame e = cc
 read_rights true false true f frame e = absurd cc
@@ -60,13 +61,16 @@ given_below m w page frame e =
     omega (arith, lt, few)
 
 -- a page that data may be at
-pub no_text : (m : Setting) → IsWedge m → (kernel : Bool) (page frame : ℕ) → (kernel ≡ true → 0x11000 ≤ page) → IsOpen kernel m.image page frame → is_text (wedge_mode m.image) frame ≡ false
+pub no_text : (m : Setting) → IsWedge m → (kernel : Bool) (page frame : ℕ) → (kernel ≡ true → 0x11000 ≤ page)
+    → IsOpen kernel m.image page frame → is_text (wedge_mode m.image) frame ≡ false
 no_text m w false page frame above open1 = open1
-no_text m w true page frame above (inl given) = absurd (let lt = given_below m w page frame given in let le = above refl in omega (arith, lt, le))
+no_text m w true page frame above (inl given) =
+    absurd (let lt = given_below m w page frame given in let le = above refl in omega (arith, lt, le))
 no_text m w true page frame above (inr other) = other.1
 
 -- and code at level 0
-pub given_there : (m : Setting) (page frame : ℕ) → page < 0x11000 → IsOpen true m.image page frame → is_given (wedge_mode m.image) page frame ≡ true
+pub given_there : (m : Setting) (page frame : ℕ) → page < 0x11000 → IsOpen true m.image page frame
+    → is_given (wedge_mode m.image) page frame ≡ true
 given_there m page frame lt (inl given) = given
 given_there m page frame lt (inr other) = absurd (let le = other.0 in omega (arith, lt, le))
 
@@ -97,17 +101,21 @@ module _ (m : Setting) (w : IsWedge m) (memory : List ℕ) (v : View) (b : State
   past_limit false at e k = absurd cc
 
   within_limit : (kernel : Bool) (at : ℕ) → (kernel ≡ true → 0x11000000 ≤ at) → (kernel && nat_lt at 285212672) ≡ false
-  within_limit true at h = false_from_ne_true (nat_lt at 285212672) (λ e. let lt = ltb-true at 285212672 e in let le = h refl in omega (arith, lt, le))
+  within_limit true at h =
+      false_from_ne_true (nat_lt at 285212672) (λ e. let lt = ltb-true at 285212672 e in let le = h refl in omega (arith, lt, le))
   within_limit false at h = refl
 
-  pub shares : Lends m memory v.root v.kernel (wp_of b.cpu) b.set → (write : Bool) (page frame : ℕ) → page < 2 ^ 20 → (v.kernel ≡ true → 0x11000 ≤ page) → Leads memory v.root write page frame → Shares write page frame
+  pub shares : Lends m memory v.root v.kernel (wp_of b.cpu) b.set → (write : Bool) (page frame : ℕ) → page < 2 ^ 20
+      → (v.kernel ≡ true → 0x11000 ≤ page) → Leads memory v.root write page frame → Shares write page frame
   shares lends write page frame lt above e =
       let lent = lends.each page lt write frame (leads_told memory v.root page lt write frame e) in
       record { leads = e; lent = lent; plain = no_text m w v.kernel page frame above lent.is_open }
 
   -- from what the host met
-  pub range_shared : Lends m memory v.root v.kernel (wp_of b.cpu) b.set → (write : Bool) (r : Range) → 1 ≤ r.len → r.len ≤ 32 → r.at + r.len ≤ 2 ^ 32 → (v.kernel ≡ true → 0x11000000 ≤ r.at)
-      → (first : ℕ) → Leads memory v.root write (r.at / 4096) first → (last : ℕ) → Leads memory v.root write (last_page r) last → IsShared write r
+  pub range_shared : Lends m memory v.root v.kernel (wp_of b.cpu) b.set → (write : Bool) (r : Range) → 1 ≤ r.len → r.len ≤ 32 → r.at
+      + r.len ≤ 2 ^ 32 → (v.kernel ≡ true → 0x11000000 ≤ r.at)
+      → (first : ℕ) → Leads memory v.root write (r.at / 4096) first → (last : ℕ)
+      → Leads memory v.root write (last_page r) last → IsShared write r
   range_shared lends write r some few fits above first e last g =
       record {
         fits = fits;
@@ -120,14 +128,23 @@ module _ (m : Setting) (w : IsWedge m) (memory : List ℕ) (v : View) (b : State
         last_is = shares lends write (last_page r) last (omega (arith, fits, some)) (λ k. let le = above k in omega (arith, le)) g;
       }
 
-  pub from_host : Lends m memory v.root v.kernel (wp_of b.cpu) b.set → (write : Bool) (o : Option Range) → IsShort o → AreRanges memory v write o → AreShared write o
+  pub from_host : Lends m memory v.root v.kernel (wp_of b.cpu) b.set → (write : Bool) (o : Option Range) → IsShort o
+      → AreRanges memory v write o → AreShared write o
   from_host lends write None short h = tt
-  from_host lends write (Some r) short h = range_shared lends write r short.0 short.1 h.fits (past_limit v.kernel r.at h.above) h.first h.first_is h.last h.last_is
+  from_host lends write (Some r) short h =
+      range_shared lends write r short.0 short.1 h.fits (past_limit v.kernel r.at h.above) h.first h.first_is h.last h.last_is
 
   pub to_host : (write : Bool) (o : Option Range) → AreShared write o → AreRanges memory v write o
   to_host write None h = tt
   to_host write (Some r) h =
-      record { fits = h.fits; above = within_limit v.kernel r.at h.above; first = h.first; first_is = h.first_is.leads; last = h.last; last_is = h.last_is.leads }
+      record {
+        fits = h.fits;
+        above = within_limit v.kernel r.at h.above;
+        first = h.first;
+        first_is = h.first_is.leads;
+        last = h.last;
+        last_is = h.last_is.leads;
+      }
 
   -- data isn't barred from a frame without text
   pub free_data : (page frame : ℕ) → is_text (wedge_mode m.image) frame ≡ false → IsFree m b v.kernel false page frame
@@ -166,26 +183,31 @@ module _ (m : Setting) (w : IsWedge m) (memory : List ℕ) (v : View) (b : State
       ]
 
   -- an address of a page that may be written leads to a frame that is lent for it
-  page_elsewhere : (f : ℕ) → IsUnlent memory v.root f → (a page frame : ℕ) → a / 4096 ≡ page → page < 2 ^ 20 → Shares true page frame → place memory v.root a / 4096 ≡ f → ⊥
+  page_elsewhere : (f : ℕ) → IsUnlent memory v.root f → (a page frame : ℕ) → a / 4096 ≡ page → page < 2 ^ 20 → Shares true page frame
+      → place memory v.root a / 4096 ≡ f → ⊥
   unfolding place
   page_elsewhere f none a page frame e lt s there =
       let leads : reached_by false (walked memory v.root (a / 4096)) ≡ Some frame =
       ap (λ p. reached_by false (walked memory v.root p)) e ∙ reads_too true (walked memory v.root page) frame s.leads in
-      let at : place_in (reached_by false (walked memory v.root (a / 4096))) a ≡ 4096 * frame + a % 4096 = ap (λ (o : Option ℕ). place_in o a) leads in
+      let at : place_in (reached_by false (walked memory v.root (a / 4096))) a ≡ 4096 * frame + a % 4096 =
+      ap (λ (o : Option ℕ). place_in o a) leads in
       let same : frame ≡ f = omega (arith, at, there) in
       none page lt (leads_told memory v.root page lt true frame s.leads ∙ ap Some same)
 
-  elsewhere : (f : ℕ) → IsUnlent memory v.root f → (r : Range) → IsShared true r → (k : ℕ) → k < r.len → place memory v.root (r.at + k) / 4096 ≡ f → ⊥
+  elsewhere : (f : ℕ) → IsUnlent memory v.root f → (r : Range) → IsShared true r → (k : ℕ) → k < r.len
+      → place memory v.root (r.at + k) / 4096 ≡ f → ⊥
   elsewhere f none r h k lt =
       let few = h.few in
       let fits = h.fits in
       let some = h.some in
       elim (cases_lt ((r.at + k) / 4096) (r.at / 4096 + 1)) [
         | inl below ↦ page_elsewhere f none (r.at + k) (r.at / 4096) h.first (omega (arith, below)) (omega (arith, fits, some)) h.first_is
-        | inr above ↦ page_elsewhere f none (r.at + k) (last_page r) h.last (omega (arith, above, lt, few)) (omega (arith, fits, some)) h.last_is
+        | inr above ↦ page_elsewhere f none (r.at + k) (last_page r) h.last (omega (arith, above, lt, few))
+            (omega (arith, fits, some)) h.last_is
       ]
 
-  pub covers_elsewhere : (f : ℕ) → IsUnlent memory v.root f → (P : ℕ → Type 0) → ((a : ℕ) → IsFound a → (place memory v.root a / 4096 ≡ f → ⊥) → P a) → (o : Option Range) → AreShared true o → Covers P o
+  pub covers_elsewhere : (f : ℕ) → IsUnlent memory v.root f → (P : ℕ → Type 0)
+      → ((a : ℕ) → IsFound a → (place memory v.root a / 4096 ≡ f → ⊥) → P a) → (o : Option Range) → AreShared true o → Covers P o
   covers_elsewhere f none P g None h = tt
   covers_elsewhere f none P g (Some r) h = λ k lt. g (r.at + k) (found true r h k lt) (elsewhere f none r h k lt)
 

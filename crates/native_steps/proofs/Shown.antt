@@ -21,7 +21,8 @@ apart_by m frame e =
     elim (cases_lt frame 0x100) [
       | inl below ↦ inl below
       | inr above ↦ elim (cases_lt frame (0x100 + text_pages m.image)) [
-        | inl within ↦ absurd (both_ways (nat_le 0x100 frame && nat_lt frame (0x100 + text_pages m.image)) e (and_from _ _ (le-leb 0x100 frame above) (lt-ltb frame (0x100 + text_pages m.image) within)))
+        | inl within ↦ absurd (both_ways (nat_le 0x100 frame && nat_lt frame (0x100 + text_pages m.image)) e
+            (and_from _ _ (le-leb 0x100 frame above) (lt-ltb frame (0x100 + text_pages m.image) within)))
         | inr behind ↦ inr behind
       ]
     ]
@@ -63,7 +64,8 @@ module _ (m : Setting) (w : IsWedge m) (memory : List ℕ) (h : IsHost m memory)
   one_byte x a = let z : a + 0 ≡ a = omega arith in byte-part x a 1 0 (omega arith) ∙ ap (byte x) z
 
   pub byte_shown : (a : ℕ) → a < 4096 * m.frames → IsApart m a 1 → byte (shown m memory) a ≡ byte memory a
-  byte_shown a lt far = sym (one_byte (shown m memory) a) ∙ ap (λ (x : List ℕ). byte x 0) (part_shown a 1 (omega (arith, lt)) far) ∙ one_byte memory a
+  byte_shown a lt far =
+      sym (one_byte (shown m memory) a) ∙ ap (λ (x : List ℕ). byte x 0) (part_shown a 1 (omega (arith, lt)) far) ∙ one_byte memory a
 
   -- in the text one has the text, and the other the patched text
   pub text_shown : (at n : ℕ) → at + n ≤ length m.image.text → part (shown m memory) (0x100000 + at) n ≡ part m.image.text at n
@@ -72,11 +74,13 @@ module _ (m : Setting) (w : IsWedge m) (memory : List ℕ) (h : IsHost m memory)
       sym (part-part (with_part front 0x100000 m.image.text) 0x100000 (length m.image.text) at n le)
       ∙ ap (λ (x : List ℕ). part x at n) (part-with_part front 0x100000 m.image.text (length m.image.text) text_within refl)
 
-  pub text_patched : (at n : ℕ) → at + n ≤ length m.image.text → part memory (0x100000 + at) n ≡ part (patched m.image.text 0 m.image.sites) at n
+  pub text_patched : (at n : ℕ) → at + n ≤ length m.image.text
+      → part memory (0x100000 + at) n ≡ part (patched m.image.text 0 m.image.sites) at n
   text_patched at n le = sym (part-part memory 0x100000 (length m.image.text) at n le) ∙ ap (λ (x : List ℕ). part x at n) h.text
 
   -- a frame that another memory has as well is the same in what it shows
-  pub shown_same : (other : List ℕ) → length other ≡ length memory → (f : ℕ) → frame other f ≡ frame memory f → frame (shown m other) f ≡ frame (shown m memory) f
+  pub shown_same : (other : List ℕ) → length other ≡ length memory → (f : ℕ) → frame other f ≡ frame memory f
+      → frame (shown m other) f ≡ frame (shown m memory) f
   unfolding shown
   shown_same other long f same =
       let room = h.room in
@@ -98,11 +102,14 @@ module _ (m : Setting) (w : IsWedge m) (memory : List ℕ) (h : IsHost m memory)
           | inl below ↦
               with_part-comm' below
           | inr above ↦
-              with_part-comm front 0x100000 m.image.text a (v ∷ []) above (omega (arith, lt, front_length)) ∙ ap (λ (x : List ℕ). with_part x 0x100000 m.image.text) (sym taken)
+              with_part-comm front 0x100000 m.image.text a (v ∷ []) above (omega (arith, lt, front_length))
+              ∙ ap (λ (x : List ℕ). with_part x 0x100000 m.image.text) (sym taken)
         ]
       where
-        with_part-comm' : a + 1 ≤ 0x100000 → with_part (with_part front 0x100000 m.image.text) a (v ∷ []) ≡ with_part (take (4096 * m.frames) (with_part memory a (v ∷ []))) 0x100000 m.image.text
-        with_part-comm' below = sym (with_part-comm front a (v ∷ []) 0x100000 m.image.text below text_within) ∙ ap (λ (x : List ℕ). with_part x 0x100000 m.image.text) (sym taken)
+        with_part-comm' : a + 1 ≤ 0x100000 → with_part (with_part front 0x100000 m.image.text) a (v ∷ []) ≡ with_part
+            (take (4096 * m.frames) (with_part memory a (v ∷ []))) 0x100000 m.image.text
+        with_part-comm' below = sym (with_part-comm front a (v ∷ []) 0x100000 m.image.text below text_within)
+            ∙ ap (λ (x : List ℕ). with_part x 0x100000 m.image.text) (sym taken)
 
     pub still_host : IsHost m (with_byte memory a v)
     unfolding with_byte

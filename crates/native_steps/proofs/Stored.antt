@@ -30,13 +30,16 @@ stored_is s (w ∷ ws) = stored_is (saved s w.at w.size w.value) ws
 
 -- ---- what each byte keeps, all stores keep
 
-module _ (at : ℕ → ℕ) (P : ℕ → Type 0) (K : List ℕ → List ℕ → Type 0) (byte_kept : (now seen : List ℕ) (a v : ℕ) → K now seen → P a → K (with_byte now (at a) v) (with_byte seen (at a) v)) where
+module _ (at : ℕ → ℕ) (P : ℕ → Type 0) (K : List ℕ → List ℕ → Type 0)
+    (byte_kept : (now seen : List ℕ) (a v : ℕ) → K now seen → P a → K (with_byte now (at a) v) (with_byte seen (at a) v)) where
   first : (a n : ℕ) → 0 < n → AreAll P a n → P a
   first a n lt h = let z : a + 0 ≡ a = omega arith in subst P z (h 0 lt)
 
-  number_kept : (now seen : List ℕ) (a : ℕ) (size : Size) (v : ℕ) → K now seen → IsAllAt P a size → K (number_stored at now a size v) (number_stored at seen a size v)
+  number_kept : (now seen : List ℕ) (a : ℕ) (size : Size) (v : ℕ) → K now seen → IsAllAt P a size
+      → K (number_stored at now a size v) (number_stored at seen a size v)
   number_kept now seen a Byte v k h = byte_kept now seen a (v % 256) k (first a 1 (omega arith) h)
-  number_kept now seen a Word v k h = byte_kept _ _ (a + 1) (v / 256 % 256) (byte_kept now seen a (v % 256) k (first a 2 (omega arith) h)) (h 1 (omega arith))
+  number_kept now seen a Word v k h =
+      byte_kept _ _ (a + 1) (v / 256 % 256) (byte_kept now seen a (v % 256) k (first a 2 (omega arith) h)) (h 1 (omega arith))
   number_kept now seen a Long v k h =
       byte_kept _ _ (a + 3) (v / 16777216)
       (byte_kept _ _ (a + 2) (v / 65536 % 256)
@@ -71,7 +74,8 @@ module _ (at : ℕ → ℕ) (P : ℕ → Type 0) (K : List ℕ → List ℕ → 
   all_in (One s) h = (h, tt)
   all_in (Eight a vs) h = longs_in 8 a vs h
 
-  all_kept : (now seen : List ℕ) (ws : Stores) → K now seen → AreStored P ws → K (all_stored at now (list_of ws)) (all_stored at seen (list_of ws))
+  all_kept : (now seen : List ℕ) (ws : Stores) → K now seen → AreStored P ws
+      → K (all_stored at now (list_of ws)) (all_stored at seen (list_of ws))
   all_kept now seen ws k h = list_kept (list_of ws) now seen k (all_in ws h)
 
 -- ---- both memories
@@ -94,11 +98,14 @@ module _ (m : Setting) (w : IsWedge m) (memory : List ℕ) (at : ℕ → ℕ) wh
     host = still_host m w now k.host (at a) v p.within p.apart;
     shown_is = ap (λ (x : List ℕ). with_byte x (at a) v) k.shown_is ∙ shown_with m w now k.host (at a) v p.within p.apart;
     long = still_long m w now k.host (at a) v p.within p.apart ∙ k.long;
-    behind = drop-with_byte (4096 * m.frames) now (at a) v (let room = k.host.room in let lt = p.within in omega (arith, room, lt)) p.within ∙ k.behind;
+    behind = drop-with_byte (4096 * m.frames) now (at a) v (let room = k.host.room in let lt = p.within in omega (arith, room, lt))
+        p.within ∙ k.behind;
   }
 
-  pub stores_kept : IsHost m memory → (ws : Stores) → AreStored IsPlace ws → Keeps (all_stored at memory (list_of ws)) (all_stored at (shown m memory) (list_of ws))
-  stores_kept host ws h = all_kept at IsPlace Keeps byte_kept memory (shown m memory) ws (record { host = host; shown_is = refl; long = refl; behind = refl }) h
+  pub stores_kept : IsHost m memory → (ws : Stores) → AreStored IsPlace ws
+      → Keeps (all_stored at memory (list_of ws)) (all_stored at (shown m memory) (list_of ws))
+  stores_kept host ws h =
+      all_kept at IsPlace Keeps byte_kept memory (shown m memory) ws (record { host = host; shown_is = refl; long = refl; behind = refl }) h
 
 -- ---- a frame in which nothing is written
 

@@ -62,22 +62,28 @@ module _ (s : Tables) (page : ℕ) (e : Entry) (d t : ℕ) (small : page < 2 ^ 2
   by_parts (ByTable h) = by_table h
   by_parts (Large h) = by_large h
 
-  pub reads_text : fresh s.ram s.frames s.cr3 s.pse page ≡ Found e d t → walks_text s page ≡ (is_text s.mode (d / 4096) || is_text s.mode (t / 4096))
+  pub reads_text : fresh s.ram s.frames s.cr3 s.pse page ≡ Found e d t
+      → walks_text s page ≡ (is_text s.mode (d / 4096) || is_text s.mode (t / 4096))
   reads_text found = by_parts (walk_parts s.ram s.frames s.cr3 s.pse page e d t found)
 
 -- ---- where a fresh walk lets a use pass
 
-pub decided_clear : (s : Tables) (fetch : Bool) (page at : ℕ) (access : Access) → (decided s fetch page at access).met ≡ Ready → walks_text s page ≡ false
+pub decided_clear : (s : Tables) (fetch : Bool) (page at : ℕ) (access : Access) → (decided s fetch page at access).met ≡ Ready
+    → walks_text s page ≡ false
 unfolding decided
 decided_clear s fetch page at access e = by_text (walks_text s page) e
   where
-    by_text : (text : Bool) → (cond {A = Decision} text (record { met = Stop stops.TableInText; entry = None; ram = s.ram }) (by_walk s fetch at access (fresh s.ram s.frames s.cr3 s.pse page))).met ≡ Ready → text ≡ false
+    by_text : (text : Bool)
+        → (cond {A = Decision} text (record { met = Stop stops.TableInText; entry = None; ram = s.ram })
+        (by_walk s fetch at access (fresh s.ram s.frames s.cr3 s.pse page))).met ≡ Ready → text ≡ false
     by_text true x = absurd cc
     by_text false x = refl
 
 -- the tests of a walk, one after the other
-pub decided_ready : (s : Tables) (fetch : Bool) (page at : ℕ) (access : Access) (e : Entry) (d t : ℕ) → walks_text s page ≡ false → fresh s.ram s.frames s.cr3 s.pse page ≡ Found e d t
-    → grants e access s.wp ≡ true → is_barred s.mode fetch access.user e.page e.frame ≡ false → marks_own s d t access.write ≡ false → (decided s fetch page at access).met ≡ Ready
+pub decided_ready : (s : Tables) (fetch : Bool) (page at : ℕ) (access : Access) (e : Entry) (d t : ℕ) → walks_text s page ≡ false
+    → fresh s.ram s.frames s.cr3 s.pse page ≡ Found e d t
+    → grants e access s.wp ≡ true → is_barred s.mode fetch access.user e.page e.frame ≡ false → marks_own s d t access.write ≡ false
+    → (decided s fetch page at access).met ≡ Ready
 unfolding decided
 decided_ready s fetch page at access e d t clear found granted free own =
     let last : Decision = record { met = Ready; entry = Some (dirtied e access.write); ram = flagged s.ram d t access.write } in
@@ -88,6 +94,7 @@ decided_ready s fetch page at access e d t clear found granted free own =
     ap (λ (x : Decision). x.met)
     (cond-false (walks_text s page) text (by_walk s fetch at access (fresh s.ram s.frames s.cr3 s.pse page)) clear
     ∙ ap (by_walk s fetch at access) found
-    ∙ cond-false (not (grants e access s.wp)) first (cond (is_barred s.mode fetch access.user e.page e.frame) second (cond (marks_own s d t access.write) third last)) (ap not granted)
+    ∙ cond-false (not (grants e access s.wp)) first
+    (cond (is_barred s.mode fetch access.user e.page e.frame) second (cond (marks_own s d t access.write) third last)) (ap not granted)
     ∙ cond-false (is_barred s.mode fetch access.user e.page e.frame) second (cond (marks_own s d t access.write) third last) free
     ∙ cond-false (marks_own s d t access.write) third last own)

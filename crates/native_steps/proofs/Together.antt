@@ -74,7 +74,8 @@ not_reloading op.FarJump imm e = absurd cc
 not_reloading op.Iret imm e = absurd cc
 not_reloading o imm e = refl
 
-pub by_op_is : (m : Setting) (o : Op) (b : State) (insn : Insn) (len : ℕ) (s : Space) → is_software o ≡ false → by_op m o b insn len s ≡ after_instruction m b (begun b insn) (instructed insn len b.cpu s)
+pub by_op_is : (m : Setting) (o : Op) (b : State) (insn : Insn) (len : ℕ) (s : Space) → is_software o ≡ false
+    → by_op m o b insn len s ≡ after_instruction m b (begun b insn) (instructed insn len b.cpu s)
 by_op_is m op.Int b insn len s e = absurd cc
 by_op_is m op.Int3 b insn len s e = absurd cc
 by_op_is m o b insn len s e = refl
@@ -96,7 +97,8 @@ way_shaped P ram eip insn len (inr w) = decoded_shaped _ insn len w.is
 
 -- ---- the start of a step
 
-begins_well : (image : Image) (eip : ℕ) (mode : Rattle.paging.specs.Space.Mode) (kernel : Bool) → (kernel ≡ true → rules.is_start image eip ≡ true) → (rules.may_begin mode image eip || not kernel) ≡ true
+begins_well : (image : Image) (eip : ℕ) (mode : Rattle.paging.specs.Space.Mode) (kernel : Bool)
+    → (kernel ≡ true → rules.is_start image eip ≡ true) → (rules.may_begin mode image eip || not kernel) ≡ true
 begins_well image eip Rattle.paging.specs.Space.Bare kernel h = refl
 begins_well image eip (Rattle.paging.specs.Space.Wedge text count own) true h = ap (λ x. x || false) (h refl)
 begins_well image eip (Rattle.paging.specs.Space.Wedge text count own) false h = or_true (rules.is_start image eip)
@@ -107,7 +109,8 @@ begins_well image eip (Rattle.paging.specs.Space.Wedge text count own) false h =
 
 stands_well : (m : Setting) (kernel : Bool) (b : State) → IsLevelOf kernel b.cpu.cpl → IsNext m kernel b → rules.stands_well m b.cpu ≡ true
 stands_well m kernel b level next =
-    ap (λ k. rules.may_begin m.mode m.image b.cpu.regs.eip || not k) (level_kernel kernel b.cpu.cpl level) ∙ begins_well m.image b.cpu.regs.eip m.mode kernel next.start
+    ap (λ k. rules.may_begin m.mode m.image b.cpu.regs.eip || not k) (level_kernel kernel b.cpu.cpl level)
+    ∙ begins_well m.image b.cpu.regs.eip m.mode kernel next.start
 
 -- the step is its fetch, and what comes of it
 pub stepped_by : (m : Setting) (kernel : Bool) (b : State) → IsLevelOf kernel b.cpu.cpl → IsNext m kernel b
@@ -136,7 +139,8 @@ without_rights v cpu s k =
       above = level_kernel v.kernel cpu.cpl s.level ∙ k;
     }
 
-module _ (flags : EffectLaws) (m : Setting) (w : IsWedge m) (memory : List ℕ) (v : View) (b : State) (stands : Mirrors m memory v b) (next : IsNext m v.kernel b) where
+module _ (flags : EffectLaws) (m : Setting) (w : IsWedge m) (memory : List ℕ) (v : View) (b : State) (stands : Mirrors m memory v b)
+    (next : IsNext m v.kernel b) where
   sees : Sees v b.cpu
   sees = stands.sees
 
@@ -164,9 +168,18 @@ module _ (flags : EffectLaws) (m : Setting) (w : IsWedge m) (memory : List ℕ) 
   -- ---- the start of the step
 
   pub at_start : At m b (space_at_start m.mode m.frames b.cpu b.ram b.set)
-  at_start = record { ram = refl; set = refl; wp = refl; visited = λ q c. absurd (let lt = c.1 in omega (arith, lt)); tables = refl; own = no_own; mode = w.mode }
+  at_start = record {
+    ram = refl;
+    set = refl;
+    wp = refl;
+    visited = λ q c. absurd (let lt = c.1 in omega (arith, lt));
+    tables = refl;
+    own = no_own;
+    mode = w.mode;
+  }
 
-  pub stepped_is : stepped m b ≡ after_fetch m (unheld b) (fetched (b.cpu.cpl == 3) b.cpu.regs.eip (space_at_start m.mode m.frames b.cpu b.ram b.set))
+  pub stepped_is : stepped m b ≡ after_fetch m (unheld b)
+      (fetched (b.cpu.cpl == 3) b.cpu.regs.eip (space_at_start m.mode m.frames b.cpu b.ram b.set))
   stepped_is = stepped_by m v.kernel b stands.sees.level next
 
   -- ---- an instruction that both may do
@@ -202,7 +215,8 @@ module _ (flags : EffectLaws) (m : Setting) (w : IsWedge m) (memory : List ℕ) 
 
     pub met : IsMet memory v b.cpu.regs insn len
     met =
-        let free = either_false (is_denied b.cpu (ranges_of insn b.cpu.regs).read) (is_denied b.cpu (ranges_of insn b.cpu.regs).write) c.segments in
+        let free = either_false (is_denied b.cpu (ranges_of insn b.cpu.regs).read)
+        (is_denied b.cpu (ranges_of insn b.cpu.regs).write) c.segments in
         record {
           outside = c.outside;
           way = c.host_way;
@@ -217,8 +231,10 @@ module _ (flags : EffectLaws) (m : Setting) (w : IsWedge m) (memory : List ℕ) 
     pub effects_same : user_effect (selectors_of v) insn len b.cpu.regs (host_pages.byte_at memory v.root) ≡ effect_of v b insn len
     effects_same =
         flags.same (host_pages.byte_at memory v.root) (byte_of b) (selectors_of v) insn len b.cpu.regs shape
-        (covers m w memory v b stands (λ a. host_pages.byte_at memory v.root a ≡ byte_of b a) (same_byte m w memory v b stands) false (ranges_of insn b.cpu.regs).read c.read)
-        (covers m w memory v b stands (λ a. host_pages.byte_at memory v.root a ≡ byte_of b a) (same_byte m w memory v b stands) true (ranges_of insn b.cpu.regs).write c.write)
+        (covers m w memory v b stands (λ a. host_pages.byte_at memory v.root a ≡ byte_of b a) (same_byte m w memory v b stands) false
+        (ranges_of insn b.cpu.regs).read c.read)
+        (covers m w memory v b stands (λ a. host_pages.byte_at memory v.root a ≡ byte_of b a) (same_byte m w memory v b stands) true
+        (ranges_of insn b.cpu.regs).write c.write)
 
     pub host_side : host.host_step v memory b.cpu.regs ≡ host.finished v insn.op memory (effect_of v b insn len)
     host_side = host_is memory v b.cpu.regs insn len met ∙ ap (host.finished v insn.op memory) effects_same
@@ -230,7 +246,8 @@ module _ (flags : EffectLaws) (m : Setting) (w : IsWedge m) (memory : List ℕ) 
 
     bytes_at : (s : Space) → At m b s → (a : ℕ) → byte_at s a ≡ byte_of b a
     unfolding byte_at place
-    bytes_at s h a = ap (λ (x : List ℕ). byte x (place_by (get s.set (a / 4096)) a)) h.ram ∙ ap (λ (x : FinMap nat_cmp Entry). byte b.ram (place_by (get x (a / 4096)) a)) h.set
+    bytes_at s h a = ap (λ (x : List ℕ). byte x (place_by (get s.set (a / 4096)) a)) h.ram
+        ∙ ap (λ (x : FinMap nat_cmp Entry). byte b.ram (place_by (get x (a / 4096)) a)) h.set
 
     by_bytes : (o : Option Range) (s t : Space) → At m b s → At m b t → (a : ℕ) → byte_by o s t a ≡ byte_of b a
     by_bytes o s t h k a = choice (is_in o a)
@@ -247,12 +264,15 @@ module _ (flags : EffectLaws) (m : Setting) (w : IsWedge m) (memory : List ℕ) 
 
     pub native : IsNative m memory v b insn len
     native =
-        let f = fetched_comes m b v.kernel (space_at_start m.mode m.frames b.cpu b.ram b.set) b.cpu.regs.eip insn len at_start c.guest_way in
+        let f =
+        fetched_comes m b v.kernel (space_at_start m.mode m.frames b.cpu b.ram b.set) b.cpu.regs.eip insn len at_start c.guest_way in
         let r = reached_comes m w memory v b stands b.cpu user f.space false (ranges_of insn b.cpu.regs).read f.at c.read in
         let x = reached_comes m w memory v b stands b.cpu user r.space true (ranges_of insn b.cpu.regs).write r.at c.write in
-        let fetch : fetched (b.cpu.cpl == 3) b.cpu.regs.eip (space_at_start m.mode m.frames b.cpu b.ram b.set) ≡ Ok (begins.Insn insn len, f.space) =
+        let fetch : fetched (b.cpu.cpl == 3) b.cpu.regs.eip (space_at_start m.mode m.frames b.cpu b.ram b.set) ≡ Ok
+        (begins.Insn insn len, f.space) =
         ap (λ (u : Bool). fetched u b.cpu.regs.eip (space_at_start m.mode m.frames b.cpu b.ram b.set)) user ∙ f.is in
-        let same : user_effect (selectors_of v) insn len b.cpu.regs (byte_by (ranges_of insn b.cpu.regs).read r.space x.space) ≡ effect_of v b insn len =
+        let same : user_effect (selectors_of v) insn len b.cpu.regs (byte_by (ranges_of insn b.cpu.regs).read r.space x.space)
+        ≡ effect_of v b insn len =
         flags.same (byte_by (ranges_of insn b.cpu.regs).read r.space x.space) (byte_of b) (selectors_of v) insn len b.cpu.regs shape
         (all _ (ranges_of insn b.cpu.regs).read (by_bytes (ranges_of insn b.cpu.regs).read r.space x.space r.at x.at))
         (all _ (ranges_of insn b.cpu.regs).write (by_bytes (ranges_of insn b.cpu.regs).read r.space x.space r.at x.at)) in
@@ -268,19 +288,24 @@ module _ (flags : EffectLaws) (m : Setting) (w : IsWedge m) (memory : List ℕ) 
               stepped_is
               ∙ ap (after_fetch m (unheld b)) fetch
               ∙ by_op_is m insn.op (unheld b) insn len f.space soft
-              ∙ instructed_is m (unheld b) (begun b insn) flags.agree (selectors_of v) (unheld b).cpu selects f.space r.space x.space insn len user_of_held shape c.allowed (record { free = c.segments; read = r.is; write = x.is })
+              ∙ instructed_is m (unheld b) (begun b insn) flags.agree (selectors_of v) (unheld b).cpu selects f.space r.space x.space insn
+              len user_of_held shape c.allowed (record { free = c.segments; read = r.is; write = x.is })
               ∙ ap (λ (o : exec.Outcome). after_instruction m (unheld b) (begun b insn) (user_finished (unheld b).cpu o x.space)) same;
         }
       where
         user_of_held : IsPopFlags insn.op → IsUser (unheld b).cpu
         user_of_held h = let u = user_of h in record { without = u.without; above = u.above }
 
-        direct_by : (k : Bool) → v.kernel ≡ k → cond (not k) (not (needs_descriptor insn.op)) (not (is_site_at m.image.sites b.cpu.regs.eip)) ≡ true
-        direct_by true k = ap not (not_inside m.image.sites b.cpu.regs.eip (leb-true 0x10000000 b.cpu.regs.eip (and_parts (nat_le 0x10000000 b.cpu.regs.eip) _ (next.start k)).0) (next.outside k))
+        direct_by : (k : Bool) → v.kernel ≡ k
+            → cond (not k) (not (needs_descriptor insn.op)) (not (is_site_at m.image.sites b.cpu.regs.eip)) ≡ true
+        direct_by true k =
+            ap not (not_inside m.image.sites b.cpu.regs.eip
+            (leb-true 0x10000000 b.cpu.regs.eip (and_parts (nat_le 0x10000000 b.cpu.regs.eip) _ (next.start k)).0) (next.outside k))
         direct_by false k = ap not (not_reloading insn.op insn.imm allowed_row)
 
         direct : is_direct m.image.sites (begun b insn) ≡ true
         direct =
-            ap (λ (x : Bool). not x && cond (b.cpu.cpl == 3) (not (needs_descriptor insn.op)) (not (is_site_at m.image.sites b.cpu.regs.eip))) soft
+            ap (λ (x : Bool). not x && cond (b.cpu.cpl == 3) (not (needs_descriptor insn.op))
+            (not (is_site_at m.image.sites b.cpu.regs.eip))) soft
             ∙ ap (λ (x : Bool). cond x (not (needs_descriptor insn.op)) (not (is_site_at m.image.sites b.cpu.regs.eip))) user
             ∙ direct_by v.kernel refl

@@ -13,7 +13,8 @@ pub same_size : (pse : Bool) (w x : ℕ) → x / 128 % 2 ≡ w / 128 % 2 → is_
 same_size pse w x e = ap (λ n. pse && (n == 1)) e
 
 -- the places of a walk's words
-pub dir_in : (frames cr3 page : ℕ) → cr3 / 4096 < frames → page < 2 ^ 20 → (dir_place cr3 page % 4 ≡ 0) × (dir_place cr3 page + 4 ≤ 4096 * frames)
+pub dir_in : (frames cr3 page : ℕ) → cr3 / 4096 < frames → page < 2 ^ 20 → (dir_place cr3 page % 4 ≡ 0)
+    × (dir_place cr3 page + 4 ≤ 4096 * frames)
 dir_in frames cr3 page lt small = (omega arith, omega (arith, lt, small))
 
 pub word_in : (frames dir page : ℕ) → dir / 4096 < frames → (word_place dir page % 4 ≡ 0) × (word_place dir page + 4 ≤ 4096 * frames)
@@ -26,25 +27,38 @@ pub record AreIn (frames d t : ℕ) : Type 0 where
   pub word_even : t % 4 ≡ 0
   pub word_within : t + 4 ≤ 4096 * frames
 
-pub walk_in : (ram : List ℕ) (frames cr3 : ℕ) (pse : Bool) (page : ℕ) (e : Entry) (d t : ℕ) → page < 2 ^ 20 → IsWalk ram frames cr3 pse page e d t → AreIn frames d t
+pub walk_in : (ram : List ℕ) (frames cr3 : ℕ) (pse : Bool) (page : ℕ) (e : Entry) (d t : ℕ) → page < 2 ^ 20
+    → IsWalk ram frames cr3 pse page e d t → AreIn frames d t
 walk_in ram frames cr3 pse page e d t small (ByTable h) =
     let p = dir_in frames cr3 page h.root small in
     let q = word_in frames (word32 ram (dir_place cr3 page)) page h.table in
     let x = h.dir_is in
     let y = h.word_is in
-    record { dir_even = ap (λ n. n % 4) (sym x) ∙ p.0; dir_within = omega (arith, p.1, x); word_even = ap (λ n. n % 4) (sym y) ∙ q.0; word_within = omega (arith, q.1, y) }
+    record {
+      dir_even = ap (λ n. n % 4) (sym x) ∙ p.0;
+      dir_within = omega (arith, p.1, x);
+      word_even = ap (λ n. n % 4) (sym y) ∙ q.0;
+      word_within = omega (arith, q.1, y);
+    }
 walk_in ram frames cr3 pse page e d t small (Large h) =
     let p = dir_in frames cr3 page h.root small in
     let x = h.dir_is in
     let y = h.word_is in
-    record { dir_even = ap (λ n. n % 4) (sym x) ∙ p.0; dir_within = omega (arith, p.1, x); word_even = ap (λ n. n % 4) (sym y) ∙ p.0; word_within = omega (arith, p.1, y) }
+    record {
+      dir_even = ap (λ n. n % 4) (sym x) ∙ p.0;
+      dir_within = omega (arith, p.1, x);
+      word_even = ap (λ n. n % 4) (sym y) ∙ p.0;
+      word_within = omega (arith, p.1, y);
+    }
 
-pub page_is : (ram : List ℕ) (frames cr3 : ℕ) (pse : Bool) (page : ℕ) (e : Entry) (d t : ℕ) → IsWalk ram frames cr3 pse page e d t → e.page ≡ page
+pub page_is : (ram : List ℕ) (frames cr3 : ℕ) (pse : Bool) (page : ℕ) (e : Entry) (d t : ℕ)
+    → IsWalk ram frames cr3 pse page e d t → e.page ≡ page
 page_is ram frames cr3 pse page e d t (ByTable h) = sym (ap (λ (x : Entry). x.page) h.entry_is)
 page_is ram frames cr3 pse page e d t (Large h) = sym (ap (λ (x : Entry). x.page) h.entry_is)
 
 -- the frame is in the memory
-pub walk_frame : (ram : List ℕ) (frames cr3 : ℕ) (pse : Bool) (page : ℕ) (e : Entry) (d t : ℕ) → IsWalk ram frames cr3 pse page e d t → e.frame < frames
+pub walk_frame : (ram : List ℕ) (frames cr3 : ℕ) (pse : Bool) (page : ℕ) (e : Entry) (d t : ℕ)
+    → IsWalk ram frames cr3 pse page e d t → e.frame < frames
 walk_frame ram frames cr3 pse page e d t (ByTable h) =
     let within = h.word_in in
     let is = ap (λ (x : Entry). x.frame) h.entry_is in
@@ -61,7 +75,8 @@ pub record IsStill (ram : List ℕ) (frames cr3 : ℕ) (pse : Bool) (page : ℕ)
   pub more : e.dirty ≡ true → dirty ≡ true
   pub flag : dirty ≡ has (word32 ram t) 64
 
-table_kept : (x y : List ℕ) (frames cr3 : ℕ) (pse : Bool) (page : ℕ) (e : Entry) (d t : ℕ) → AreMarked x y → page < 2 ^ 20 → 4096 * frames ≤ length x → IsByTable x frames cr3 pse page e d t → IsStill y frames cr3 pse page e d t
+table_kept : (x y : List ℕ) (frames cr3 : ℕ) (pse : Bool) (page : ℕ) (e : Entry) (d t : ℕ) → AreMarked x y → page < 2 ^ 20
+    → 4096 * frames ≤ length x → IsByTable x frames cr3 pse page e d t → IsStill y frames cr3 pse page e d t
 table_kept x y frames cr3 pse page e d t m small room h =
     let dp = dir_in frames cr3 page h.root small in
     let old : ℕ = word32 x (dir_place cr3 page) in
@@ -71,8 +86,10 @@ table_kept x y frames cr3 pse page e d t m small room h =
     let word = m.each (word_place old page) wp.0 (omega (arith, wp.1, room)) in
     let again : word32 y (word_place (word32 y (dir_place cr3 page)) page) ≡ word32 y (word_place old page) = ap (word32 y) place in
     let low_dir = dir.low in
-    let low_word : word32 y (word_place (word32 y (dir_place cr3 page)) page) % 32 ≡ word32 x (word_place old page) % 32 = ap (λ n. n % 32) again ∙ word.low in
-    let frame_word : word32 y (word_place (word32 y (dir_place cr3 page)) page) / 4096 ≡ word32 x (word_place old page) / 4096 = ap (λ n. n / 4096) again ∙ word.frame in
+    let low_word : word32 y (word_place (word32 y (dir_place cr3 page)) page) % 32 ≡ word32 x (word_place old page) % 32 =
+    ap (λ n. n % 32) again ∙ word.low in
+    let frame_word : word32 y (word_place (word32 y (dir_place cr3 page)) page) / 4096 ≡ word32 x (word_place old page) / 4096 =
+    ap (λ n. n / 4096) again ∙ word.frame in
     let new_word : ℕ = word32 y (word_place (word32 y (dir_place cr3 page)) page) in
     let old_word : ℕ = word32 x (word_place old page) in
     let table = h.table in
@@ -89,11 +106,41 @@ table_kept x y frames cr3 pse page e d t m small room h =
         word_present = has_1 old_word new_word low_word ∙ h.word_present;
         word_in = omega (arith, within, frame_word);
         entry_is =
-            ap (λ f. record { page = page; frame = f; user = has (word32 y (dir_place cr3 page)) 4 && has new_word 4; write = has (word32 y (dir_place cr3 page)) 2 && has new_word 2; dirty = has new_word 64 }) frame_word
-            ∙ ap (λ u. record { page = page; frame = old_word / 4096; user = u && has new_word 4; write = has (word32 y (dir_place cr3 page)) 2 && has new_word 2; dirty = has new_word 64 }) (has_4 old (word32 y (dir_place cr3 page)) low_dir)
-            ∙ ap (λ u. record { page = page; frame = old_word / 4096; user = has old 4 && u; write = has (word32 y (dir_place cr3 page)) 2 && has new_word 2; dirty = has new_word 64 }) (has_4 old_word new_word low_word)
-            ∙ ap (λ u. record { page = page; frame = old_word / 4096; user = has old 4 && has old_word 4; write = u && has new_word 2; dirty = has new_word 64 }) (has_2 old (word32 y (dir_place cr3 page)) low_dir)
-            ∙ ap (λ u. record { page = page; frame = old_word / 4096; user = has old 4 && has old_word 4; write = has old 2 && u; dirty = has new_word 64 }) (has_2 old_word new_word low_word)
+            ap (λ f. record {
+              page = page;
+              frame = f;
+              user = has (word32 y (dir_place cr3 page)) 4 && has new_word 4;
+              write = has (word32 y (dir_place cr3 page)) 2 && has new_word 2;
+              dirty = has new_word 64;
+            }) frame_word
+            ∙ ap (λ u. record {
+              page = page;
+              frame = old_word / 4096;
+              user = u && has new_word 4;
+              write = has (word32 y (dir_place cr3 page)) 2 && has new_word 2;
+              dirty = has new_word 64;
+            }) (has_4 old (word32 y (dir_place cr3 page)) low_dir)
+            ∙ ap (λ u. record {
+              page = page;
+              frame = old_word / 4096;
+              user = has old 4 && u;
+              write = has (word32 y (dir_place cr3 page)) 2 && has new_word 2;
+              dirty = has new_word 64;
+            }) (has_4 old_word new_word low_word)
+            ∙ ap (λ u. record {
+              page = page;
+              frame = old_word / 4096;
+              user = has old 4 && has old_word 4;
+              write = u && has new_word 2;
+              dirty = has new_word 64;
+            }) (has_2 old (word32 y (dir_place cr3 page)) low_dir)
+            ∙ ap (λ u. record {
+              page = page;
+              frame = old_word / 4096;
+              user = has old 4 && has old_word 4;
+              write = has old 2 && u;
+              dirty = has new_word 64;
+            }) (has_2 old_word new_word low_word)
             ∙ ap (λ (z : Entry). record z { dirty = has new_word 64 }) was;
         dir_is = h.dir_is;
         word_is = place ∙ h.word_is;
@@ -111,7 +158,8 @@ same_large w x page e = omega (arith, e)
 pub same_reserved : (w x : ℕ) → x / 4096 ≡ w / 4096 → has_reserved x ≡ has_reserved w
 same_reserved w x e = ap (λ n. not (n == 0)) (let g : x / 8192 % 512 ≡ w / 8192 % 512 = omega (arith, e) in g)
 
-large_kept : (x y : List ℕ) (frames cr3 : ℕ) (pse : Bool) (page : ℕ) (e : Entry) (d t : ℕ) → AreMarked x y → page < 2 ^ 20 → 4096 * frames ≤ length x → IsLarge x frames cr3 pse page e d t → IsStill y frames cr3 pse page e d t
+large_kept : (x y : List ℕ) (frames cr3 : ℕ) (pse : Bool) (page : ℕ) (e : Entry) (d t : ℕ) → AreMarked x y → page < 2 ^ 20
+    → 4096 * frames ≤ length x → IsLarge x frames cr3 pse page e d t → IsStill y frames cr3 pse page e d t
 large_kept x y frames cr3 pse page e d t m small room h =
     let dp = dir_in frames cr3 page h.root small in
     let old : ℕ = word32 x (dir_place cr3 page) in
@@ -130,8 +178,10 @@ large_kept x y frames cr3 pse page e d t m small room h =
         frame_in = omega (arith, within, frame);
         entry_is =
             ap (λ f. record { page = page; frame = f; user = has new 4; write = has new 2; dirty = has new 64 }) frame
-            ∙ ap (λ u. record { page = page; frame = large_frame old page; user = u; write = has new 2; dirty = has new 64 }) (has_4 old new dir.low)
-            ∙ ap (λ u. record { page = page; frame = large_frame old page; user = has old 4; write = u; dirty = has new 64 }) (has_2 old new dir.low)
+            ∙ ap (λ u. record { page = page; frame = large_frame old page; user = u; write = has new 2; dirty = has new 64 })
+            (has_4 old new dir.low)
+            ∙ ap (λ u. record { page = page; frame = large_frame old page; user = has old 4; write = u; dirty = has new 64 })
+            (has_2 old new dir.low)
             ∙ ap (λ (z : Entry). record z { dirty = has new 64 }) was;
         dir_is = h.dir_is;
         word_is = h.word_is;
@@ -143,6 +193,7 @@ large_kept x y frames cr3 pse page e d t m small room h =
       flag = ap (λ n. has (word32 y n) 64) h.word_is;
     }
 
-pub walk_kept : (x y : List ℕ) (frames cr3 : ℕ) (pse : Bool) (page : ℕ) (e : Entry) (d t : ℕ) → AreMarked x y → page < 2 ^ 20 → 4096 * frames ≤ length x → IsWalk x frames cr3 pse page e d t → IsStill y frames cr3 pse page e d t
+pub walk_kept : (x y : List ℕ) (frames cr3 : ℕ) (pse : Bool) (page : ℕ) (e : Entry) (d t : ℕ) → AreMarked x y → page < 2 ^ 20
+    → 4096 * frames ≤ length x → IsWalk x frames cr3 pse page e d t → IsStill y frames cr3 pse page e d t
 walk_kept x y frames cr3 pse page e d t m small room (ByTable h) = table_kept x y frames cr3 pse page e d t m small room h
 walk_kept x y frames cr3 pse page e d t m small room (Large h) = large_kept x y frames cr3 pse page e d t m small room h

@@ -34,10 +34,12 @@ pub record StepsAgain (m : Setting) (v : View) (b : State) (insn : Insn) (len : 
   pub visited : writes.visited ≡ write.visited
   -- and what both do is the same, but for what the step itself notes of its walks and writes
   pub same : (regs : Regs) (stores : Stores) → effect_of v (settled b write) insn len ≡ outcomes.Done regs stores
-      → (report : Report) (after : State) → stepped m (settled b write) ≡ Went report after → stepped m b ≡ Went (record report { tables = write.tables; wrote = write.wrote }) after
+      → (report : Report) (after : State) → stepped m (settled b write) ≡ Went report after
+      → stepped m b ≡ Went (record report { tables = write.tables; wrote = write.wrote }) after
   -- what the step reports is what its translations went through, read and wrote
   pub reported : (regs : Regs) (stores : Stores) → effect_of v (settled b write) insn len ≡ outcomes.Done regs stores
-      → (report : Report) (after : State) → stepped m b ≡ Went report after → (report.pages ≡ write.visited) × (report.tables ≡ write.tables) × (report.wrote ≡ write.wrote)
+      → (report : Report) (after : State) → stepped m b ≡ Went report after → (report.pages ≡ write.visited)
+      × (report.tables ≡ write.tables) × (report.wrote ≡ write.wrote)
 
 -- entries lead to the guest's frames
 abbrev pub AreWithin : Setting → FinMap nat_cmp Entry → Type 0
@@ -46,6 +48,7 @@ AreWithin m set = (page : ℕ) → ForSome (get set page) (λ e. e.frame < m.fra
 abbrev pub Again : Type 0
 Again =
     (m : Setting) (v : View) (b : State)
-    → m.mode ≡ wedge_mode m.image → 4096 * m.frames ≤ length b.ram → AreBytes b.ram → AreWithin m b.set → Sees v b.cpu → IsNext m v.kernel b → b.cpu.regs.eip < 2 ^ 32
+    → m.mode ≡ wedge_mode m.image → 4096 * m.frames ≤ length b.ram → AreBytes b.ram → AreWithin m b.set → Sees v b.cpu → IsNext m v.kernel b
+    → b.cpu.regs.eip < 2 ^ 32
     → (insn : Insn) (len : ℕ) (fetch read write : Space) → IsTranslated m b insn len fetch read write → instruction_clashes m b ≡ false
     → StepsAgain m v b insn len write

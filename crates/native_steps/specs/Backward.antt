@@ -28,7 +28,8 @@ use Rattle.native_steps.specs.Forward.{IsNext, Follows}
 -- The guest's instruction was fetched, and its ranges were translated: memory after each. It is one that the host may
 -- do by itself, and at level 0 no sensitive one.
 pub record IsTranslated (m : Setting) (b : State) (insn : Insn) (len : ℕ) (after_fetch after_read after_write : Space) : Type 0 where
-  pub fetched : fetched (b.cpu.cpl == 3) b.cpu.regs.eip (space_at_start m.mode m.frames b.cpu b.ram b.set) ≡ Ok (begins.Insn insn len, after_fetch)
+  pub fetched : fetched (b.cpu.cpl == 3) b.cpu.regs.eip (space_at_start m.mode m.frames b.cpu b.ram b.set) ≡ Ok
+      (begins.Insn insn len, after_fetch)
   pub permitted : permitted insn ≡ Ok tt
   pub plain : (b.cpu.cpl == 3) ≡ false → is_plain insn.op ≡ true
   pub segments : is_refused b.cpu (ranges_of insn b.cpu.regs) ≡ false

@@ -84,6 +84,7 @@ abbrev pub AtSites : Type 0
 AtSites =
     (m : Setting) (memory : List ℕ) (v : View) (b : State)
     → IsWedge m → Mirrors m memory v b → Lends m memory v.root v.kernel (wp_of b.cpu) b.set → v.kernel ≡ true
-    → (site : Site) → TEXT_ADDRESS ≤ b.cpu.regs.eip → site_at m.image.sites (b.cpu.regs.eip - TEXT_ADDRESS) ≡ Some site → site.at ≡ b.cpu.regs.eip - TEXT_ADDRESS
+    → (site : Site) → TEXT_ADDRESS ≤ b.cpu.regs.eip → site_at m.image.sites (b.cpu.regs.eip - TEXT_ADDRESS) ≡ Some site
+    → site.at ≡ b.cpu.regs.eip - TEXT_ADDRESS
     → (done : Completion) (after_memory : List ℕ) → host_step v memory b.cpu.regs ≡ Ok (done, after_memory)
     → (done ≡ Entered (record b.cpu.regs { eip = window_at site.at })) × (after_memory ≡ memory)

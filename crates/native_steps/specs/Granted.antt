@@ -40,7 +40,8 @@ pub record IsGranted (image : Image) (kernel wp : Bool) (s : Space) (write : Boo
 
 abbrev pub IsRangeGranted : Image → Bool → Bool → Space → Bool → Option Range → Type 0
 IsRangeGranted image kernel wp s write None = Unit {0}
-IsRangeGranted image kernel wp s write (Some r) = IsGranted image kernel wp s write (r.at / 4096) × IsGranted image kernel wp s write (last_page r)
+IsRangeGranted image kernel wp s write (Some r) =
+    IsGranted image kernel wp s write (r.at / 4096) × IsGranted image kernel wp s write (last_page r)
 
 -- all pages that the instruction uses: those that its fetch went through, and those of its ranges
 pub record AreGranted (image : Image) (kernel wp : Bool) (s : Space) (pages : List ℕ) (ranges : Ranges) : Type 0 where
@@ -51,13 +52,16 @@ pub record AreGranted (image : Image) (kernel wp : Bool) (s : Space) (pages : Li
 pub record Leaves (m : Setting) (v : View) (b : State) (insn : Insn) (len : ℕ) (fetch write : Space) : Type 0 where
   pub granted : AreGranted m.image v.kernel (wp_of b.cpu) write fetch.visited (ranges_of insn b.cpu.regs)
   -- the outcome of the instruction over the step's memory is its effect over the state that is left
-  pub effect : user_effect (selectors_of b.cpu) insn len b.cpu.regs (byte_of (ranges_of insn b.cpu.regs) write) ≡ effect_of v (settled b write) insn len
+  pub effect : user_effect (selectors_of b.cpu) insn len b.cpu.regs (byte_of (ranges_of insn b.cpu.regs) write) ≡ effect_of v
+      (settled b write) insn len
   -- and the step goes on by it, whether it is done, raises or stops
-  pub step : stepped m b ≡ after_instruction m (unheld b) (begun b insn) (user_finished (unheld b).cpu (effect_of v (settled b write) insn len) write)
+  pub step : stepped m b ≡ after_instruction m (unheld b) (begun b insn)
+      (user_finished (unheld b).cpu (effect_of v (settled b write) insn len) write)
 
 abbrev pub Grants : Type 0
 Grants =
     (m : Setting) (v : View) (b : State)
-    → m.mode ≡ wedge_mode m.image → 4096 * m.frames ≤ length b.ram → AreBytes b.ram → AreWithin m b.set → Sees v b.cpu → IsNext m v.kernel b → b.cpu.regs.eip < 2 ^ 32
+    → m.mode ≡ wedge_mode m.image → 4096 * m.frames ≤ length b.ram → AreBytes b.ram → AreWithin m b.set → Sees v b.cpu → IsNext m v.kernel b
+    → b.cpu.regs.eip < 2 ^ 32
     → (insn : Insn) (len : ℕ) (fetch read write : Space) → IsTranslated m b insn len fetch read write → instruction_clashes m b ≡ false
     → Leaves m v b insn len fetch write

@@ -16,7 +16,8 @@ use Rattle.machine_model.specs.State.{Setting, wedge_mode}
 -- window to the frame that the loader gave it, and a page from the first of the data on to a frame that holds no text.
 abbrev pub IsOpen : Bool → Image → ℕ → ℕ → Type 0
 IsOpen false image page frame = is_text (wedge_mode image) frame ≡ false
-IsOpen true image page frame = (is_given (wedge_mode image) page frame ≡ true) ⊎ ((DATA_PAGE ≤ page) × (is_text (wedge_mode image) frame ≡ false))
+IsOpen true image page frame =
+    (is_given (wedge_mode image) page frame ≡ true) ⊎ ((DATA_PAGE ≤ page) × (is_text (wedge_mode image) frame ≡ false))
 
 -- the set has an entry of the page, with this frame, that lets the access of this side pass
 pub record IsLent (m : Setting) (kernel wp : Bool) (set : FinMap nat_cmp Entry) (write : Bool) (page frame : ℕ) : Type 0 where
@@ -30,7 +31,8 @@ pub record IsLent (m : Setting) (kernel wp : Bool) (set : FinMap nat_cmp Entry) 
 -- The tables whose directory is in frame `root` of the host's memory let a user's access of a page pass only where the
 -- set lets the guest's access pass, to the same frame.
 pub record Lends (m : Setting) (memory : List ℕ) (root : ℕ) (kernel wp : Bool) (set : FinMap nat_cmp Entry) : Type 0 where
-  pub each : (page : ℕ) → page < 2 ^ 20 → (write : Bool) → ForSome (reached memory (length memory / 4096) root page write) (IsLent m kernel wp set write page)
+  pub each : (page : ℕ) → page < 2 ^ 20 → (write : Bool) → ForSome (reached memory (length memory / 4096) root page write)
+      (IsLent m kernel wp set write page)
 
 -- These tables let no user's write pass to the frame: each page is lent for reads alone, or to another frame, or not at all.
 abbrev pub IsUnlent : List ℕ → ℕ → ℕ → Type 0

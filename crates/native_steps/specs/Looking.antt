@@ -37,7 +37,8 @@ pub record Seen : Type 0 where
 
 -- code may not be fetched from this frame, or a word of the walk lies in a frame that holds text
 abbrev pub is_stopped : Mode → Access → ℕ → ℕ → ℕ → ℕ → Bool
-is_stopped mode access page frame dir_at word_at = is_barred mode true access.user page frame || (is_text mode (dir_at / 4096) || is_text mode (word_at / 4096))
+is_stopped mode access page frame dir_at word_at =
+    is_barred mode true access.user page frame || (is_text mode (dir_at / 4096) || is_text mode (word_at / 4096))
 
 abbrev pub found_by : Mode → ℕ → Access → Bool → Walk → Option Seen
 found_by mode page access wp Absent = None
@@ -45,19 +46,23 @@ found_by mode page access wp Beyond = None
 found_by mode page access wp Reserved = None
 found_by mode page access wp (Found entry dir_at word_at) =
     if not (grants entry access wp) then None else
-    (if is_stopped mode access page entry.frame dir_at word_at then None else Some (record { frame = entry.frame; marks = dir_at ∷ word_at ∷ [] }))
+    (if is_stopped mode access page entry.frame dir_at word_at then None else Some
+    (record { frame = entry.frame; marks = dir_at ∷ word_at ∷ [] }))
 
 -- by an entry that may be used, or else by a walk
 abbrev pub seen_by : Mode → ℕ → Option Entry → Access → Bool → Walk → Option Seen
-seen_by mode page (Some entry) access wp walk = if is_barred mode true access.user page entry.frame then None else Some (record { frame = entry.frame; marks = [] })
+seen_by mode page (Some entry) access wp walk =
+    if is_barred mode true access.user page entry.frame then None else Some (record { frame = entry.frame; marks = [] })
 seen_by mode page None access wp walk = found_by mode page access wp walk
 
 abbrev pub seen : Setting → State → ℕ → Option Seen
-seen m b page = seen_by m.mode page (usable (get b.set page) (by_level b.cpu false) (wp_of b.cpu)) (by_level b.cpu false) (wp_of b.cpu) (fresh b.ram m.frames b.cpu.cr3 (pse_of b.cpu) page)
+seen m b page = seen_by m.mode page (usable (get b.set page) (by_level b.cpu false) (wp_of b.cpu)) (by_level b.cpu false) (wp_of b.cpu)
+    (fresh b.ram m.frames b.cpu.cr3 (pse_of b.cpu) page)
 
 -- the byte is one of those that the fetch reads in its first page
 abbrev pub is_front : State → Seen → ℕ → Bool
-is_front b x at = nat_le (4096 * x.frame + b.cpu.regs.eip % 4096) at && nat_lt at (4096 * x.frame + b.cpu.regs.eip % 4096 + front_len b.cpu.regs.eip)
+is_front b x at =
+    nat_le (4096 * x.frame + b.cpu.regs.eip % 4096) at && nat_lt at (4096 * x.frame + b.cpu.regs.eip % 4096 + front_len b.cpu.regs.eip)
 
 -- one of these bytes is among them, and its accessed flag is clear
 abbrev pub marks_front : State → Seen → List ℕ → Bool
@@ -87,7 +92,8 @@ abbrev pub uses_behind : Setting → State → Seen → List ℕ → Decoded →
 uses_behind m b x front (begins.Insn insn len) = fetch_uses b (b.cpu.regs.eip / 4096 ∷ []) ++ range_uses b (begins.Insn insn len)
 uses_behind m b x front begins.Outside = fetch_uses b (b.cpu.regs.eip / 4096 ∷ [])
 uses_behind m b x front begins.Short =
-    if b.cpu.regs.eip / 4096 == LAST_PAGE then fetch_uses b (b.cpu.regs.eip / 4096 ∷ []) else uses_on b (marked b.ram x.marks) front (next_seen m b x)
+    if b.cpu.regs.eip / 4096 == LAST_PAGE then fetch_uses b (b.cpu.regs.eip / 4096 ∷ [])
+    else uses_on b (marked b.ram x.marks) front (next_seen m b x)
 
 abbrev pub uses_from : Setting → State → Option Seen → List Use
 uses_from m b None = fetch_uses b (b.cpu.regs.eip / 4096 ∷ [])
@@ -104,7 +110,8 @@ abbrev pub UsesAreSeen : Type 0
 UsesAreSeen =
     (m : Setting) (b : State)
     → m.mode ≡ wedge_mode m.image → 4096 * m.frames ≤ length b.ram → AreBytes b.ram → b.cpu.regs.eip < 2 ^ 32
-    → (insn : Insn) (len : ℕ) (fetch : Space) → fetched (b.cpu.cpl == 3) b.cpu.regs.eip (space_at_start m.mode m.frames b.cpu b.ram b.set) ≡ Ok (begins.Insn insn len, fetch)
+    → (insn : Insn) (len : ℕ) (fetch : Space) → fetched (b.cpu.cpl == 3) b.cpu.regs.eip (space_at_start m.mode m.frames b.cpu b.ram b.set)
+    ≡ Ok (begins.Insn insn len, fetch)
     → uses_at m b ≡ uses_seen m b
 
 -- And a clash that such a look finds is one of the instruction at EIP.

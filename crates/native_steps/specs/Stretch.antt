@@ -64,7 +64,8 @@ board_after m b (suc n) = board_steps (suc n) (board_now m b)
 -- window was done.
 abbrev pub EndsAs : Setting → View → Exit → Standing → Standing → Type 0
 EndsAs m v (exits.Entry at) last t =
-    (site : Site) × (v.kernel ≡ true) × (last.regs.eip ≡ linear site.at) × (site_at m.image.sites site.at ≡ Some site) × (at ≡ window_at site.at)
+    (site : Site) × (v.kernel ≡ true) × (last.regs.eip ≡ linear site.at) × (site_at m.image.sites site.at ≡ Some site)
+    × (at ≡ window_at site.at)
     × (t ≡ record last { regs = record last.regs { eip = at } })
 EndsAs m v (exits.Fault vector code cr2) last t = t ≡ last
 EndsAs m v (exits.Soft vector) last t = t ≡ last

@@ -7,13 +7,15 @@ use Rattle.paging.specs.Space.{loaded, written, byte_at, place}
 use Rattle.paging.specs.Work.{Outcome, Work, on_value, ◌>>=◌, gives, unless, reads, reads_earlier, writes, refuses}
 use Rattle.paging.specs.Agreement.{bare, bared, IsExtra, Agrees}
 
-after : {E A B : Type 0} (extra : E → Bool) (o p : Outcome E A) (f : A → Work E B) → ((x : A) → Agrees extra (f x)) → IsExtra extra o ⊎ (p ≡ bared o) → IsExtra extra (on_value o f) ⊎ (on_value p f ≡ bared (on_value o f))
+after : {E A B : Type 0} (extra : E → Bool) (o p : Outcome E A) (f : A → Work E B) → ((x : A) → Agrees extra (f x)) → IsExtra extra o
+    ⊎ (p ≡ bared o) → IsExtra extra (on_value o f) ⊎ (on_value p f ≡ bared (on_value o f))
 after extra (Ok x) p f h (inl e) = absurd e
 after extra (Ok x) p f h (inr e) = elim ((h x.0).at_each x.1) [ inl k ↦ inl k | inr g ↦ inr (ap (λ q. on_value q f) e ∙ g) ]
 after extra (Err x) p f h (inl e) = inl e
 after extra (Err x) p f h (inr e) = inr (ap (λ q. on_value q f) e)
 
-pub then_agrees : {E A B : Type 0} {extra : E → Bool} {m : Work E A} {f : A → Work E B} → Agrees extra m → ((x : A) → Agrees extra (f x)) → Agrees extra (m >>= f)
+pub then_agrees : {E A B : Type 0} {extra : E → Bool} {m : Work E A} {f : A → Work E B} → Agrees extra m → ((x : A) → Agrees extra (f x))
+    → Agrees extra (m >>= f)
 then_agrees {extra = extra} {m = m} {f = f} hm hf = record { at_each = λ s. after extra (m s) (m (bare s)) f hf (hm.at_each s) }
 
 pub gives_agrees : {E A : Type 0} (extra : E → Bool) (x : A) → Agrees extra (gives {E = E} x)
@@ -44,9 +46,11 @@ writes_agrees extra at Long v = record { at_each = λ s. inr refl }
 pub refuses_agrees : {E A : Type 0} (extra : E → Bool) (e : E) → Agrees extra (refuses {A = A} e)
 refuses_agrees extra e = record { at_each = λ s. inr refl }
 
-pub if_agrees : {E A : Type 0} {extra : E → Bool} {w v : Work E A} (test : Bool) → Agrees extra w → Agrees extra v → Agrees extra (cond test w v)
+pub if_agrees : {E A : Type 0} {extra : E → Bool} {w v : Work E A} (test : Bool) → Agrees extra w → Agrees extra v
+    → Agrees extra (cond test w v)
 if_agrees true h k = h
 if_agrees false h k = k
 
 -- how the law goes through a list of accesses
-pub ruleset work_steps = (then_agrees, gives_agrees, unless_agrees, reads_agrees, reads_earlier_agrees, writes_agrees, refuses_agrees, if_agrees)
+pub ruleset work_steps =
+    (then_agrees, gives_agrees, unless_agrees, reads_agrees, reads_earlier_agrees, writes_agrees, refuses_agrees, if_agrees)

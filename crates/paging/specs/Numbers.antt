@@ -9,4 +9,5 @@ abbrev pub number_stored : (ℕ → ℕ) → List ℕ → ℕ → Size → ℕ �
 number_stored place m at Byte v = with_byte m (place at) (v % 256)
 number_stored place m at Word v = with_byte (with_byte m (place at) (v % 256)) (place (at + 1)) (v / 256 % 256)
 number_stored place m at Long v =
-    with_byte (with_byte (with_byte (with_byte m (place at) (v % 256)) (place (at + 1)) (v / 256 % 256)) (place (at + 2)) (v / 65536 % 256)) (place (at + 3)) (v / 16777216)
+    with_byte (with_byte (with_byte (with_byte m (place at) (v % 256)) (place (at + 1)) (v / 256 % 256)) (place (at + 2)) (v / 65536 % 256))
+    (place (at + 3)) (v / 16777216)

@@ -95,7 +95,8 @@ by_walk s fetch at access Beyond = record { met = Stop stops.BeyondRam; entry = 
 by_walk s fetch at access Reserved = record { met = Stop stops.ControlBits; entry = None; ram = s.ram }
 by_walk s fetch at access (Found entry dir_at word_at) =
     if not (grants entry access s.wp) then record { met = Fault (fault_code true access) at; entry = None; ram = s.ram } else
-    (if is_barred s.mode fetch access.user entry.page entry.frame then record { met = Stop stops.TextMapped; entry = None; ram = s.ram } else
+    (if is_barred s.mode fetch access.user entry.page entry.frame
+    then record { met = Stop stops.TextMapped; entry = None; ram = s.ram } else
     (if marks_own s dir_at word_at access.write then record { met = Stop stops.CodeIsTable; entry = None; ram = s.ram } else
     record { met = Ready; entry = Some (dirtied entry access.write); ram = flagged s.ram dir_at word_at access.write }))
 
@@ -126,11 +127,13 @@ usable (Some entry) access wp = if allows entry access wp then Some entry else N
 -- the page by an entry of the set that may be used, or else by a fresh walk
 abbrev pub by_entry : Space → (fetch : Bool) → ℕ → ℕ → Access → Option Entry → Touch × Space
 by_entry s fetch page at access None = settled s page (decided (tables_of s) fetch page at access)
-by_entry s fetch page at access (Some entry) = if is_barred s.mode fetch access.user page entry.frame then (Stop stops.TextMapped, s) else (Ready, s)
+by_entry s fetch page at access (Some entry) =
+    if is_barred s.mode fetch access.user page entry.frame then (Stop stops.TextMapped, s) else (Ready, s)
 
 -- one page of a range
 unfoldable pub page_uses : Space → (fetch : Bool) → ℕ → ℕ → Access → Touch × Space
-page_uses s fetch page at access = by_entry (record s { pages = s.pages + 1; visited = s.visited ++ page ∷ [] }) fetch page at access (usable (get s.set page) access s.wp)
+page_uses s fetch page at access =
+    by_entry (record s { pages = s.pages + 1; visited = s.visited ++ page ∷ [] }) fetch page at access (usable (get s.set page) access s.wp)
 
 abbrev pub go_on : Touch → Space → (Space → Touch × Space) → Touch × Space
 go_on Ready s f = f s
@@ -145,8 +148,13 @@ abbrev pub unready : Space → Space
 unready s = record s { ready = record { start = 0; len = 0; write = false }; earlier = earlier_of s }
 
 abbrev pub made_ready : ℕ → ℕ → Bool → Space → Touch × Space
-made_ready at len write s =
-    (Ready, record s { ready = record { start = at; len = len; write = write }; wrote = if write then s.wrote ++ frames_of s at len else s.wrote })
+made_ready at len write s = (
+  Ready,
+  record s {
+    ready = record { start = at; len = len; write = write };
+    wrote = if write then s.wrote ++ frames_of s at len else s.wrote;
+  },
+)
 
 -- the second page of a range that reaches one
 abbrev pub second_page : ℕ → ℕ → Access → Space → Touch × Space

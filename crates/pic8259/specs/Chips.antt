@@ -13,7 +13,15 @@ use Rattle.pic8259.specs.Levels.{highest, unblocked}
 
 -- before its first start: nothing is requested, and every level is masked
 abbrev pub unstarted : Chip
-unstarted = record { phase = Never; once_ready = false; interrupt_request = 0; in_service = 0; interrupt_mask = 0xFF; base = 0; selected = InterruptRequest }
+unstarted = record {
+  phase = Never;
+  once_ready = false;
+  interrupt_request = 0;
+  in_service = 0;
+  interrupt_mask = 0xFF;
+  base = 0;
+  selected = InterruptRequest;
+}
 
 -- ICW1. Profile: it clears the in-service register too, and a chip that was ready goes on raising
 abbrev pub started : Chip → Chip

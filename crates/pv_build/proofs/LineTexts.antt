@@ -40,13 +40,17 @@ line_step false false b text is = rw (is, length_begun b (lines text)) (omega ar
 pub count_on : (count i : ℕ) (begins is : Bool) (text : List ℕ) (all : ℕ) → i < length text → (get_or text i 0 == 10) ≡ is
     → count + begin_in begins (drop i text) ≡ all → count + as_number begins + begin_in is (drop (i + 1) text) ≡ all
 count_on count i begins is text all lt test so_far =
-    let here : count + begin_in begins (get_or text i 0 ∷ drop (i + 1) text) ≡ all = subst (λ (t : List ℕ). count + begin_in begins t ≡ all) (next_byte text i lt) so_far in
+    let here : count + begin_in begins (get_or text i 0 ∷ drop (i + 1) text) ≡ all =
+    subst (λ (t : List ℕ). count + begin_in begins t ≡ all) (next_byte text i lt) so_far in
     omega (arith, here, line_step begins is (get_or text i 0) (drop (i + 1) text) test)
 
-pub count_done : (count i : ℕ) (begins : Bool) (text : List ℕ) (all : ℕ) → length text ≤ i → count + begin_in begins (drop i text) ≡ all → all ≡ count
+pub count_done : (count i : ℕ) (begins : Bool) (text : List ℕ) (all : ℕ) → length text ≤ i → count
+    + begin_in begins (drop i text) ≡ all → all ≡ count
 unfolding lines
-count_done count i true text all le so_far = omega (arith, subst (λ (t : List ℕ). count + begin_in true t ≡ all) (drop_all i text le) so_far)
-count_done count i false text all le so_far = omega (arith, subst (λ (t : List ℕ). count + begin_in false t ≡ all) (drop_all i text le) so_far)
+count_done count i true text all le so_far =
+    omega (arith, subst (λ (t : List ℕ). count + begin_in true t ≡ all) (drop_all i text le) so_far)
+count_done count i false text all le so_far =
+    omega (arith, subst (λ (t : List ℕ). count + begin_in false t ≡ all) (drop_all i text le) so_far)
 
 -- ---- where two differ
 
@@ -58,11 +62,13 @@ difference_from line (x ∷ xs) [] = Some line
 difference_from line (x ∷ xs) (y ∷ ys) = cond (y == x) (difference_from (cond (x == 10) (line + 1) line) xs ys) (Some line)
 
 pub differ_on : (line i : ℕ) (xs ys : List ℕ) (all : Option ℕ) → i < length xs → i < length ys → (get_or ys i 0 == get_or xs i 0) ≡ true
-    → difference_from line (drop i xs) (drop i ys) ≡ all → difference_from (cond (get_or xs i 0 == 10) (line + 1) line) (drop (i + 1) xs) (drop (i + 1) ys) ≡ all
+    → difference_from line (drop i xs) (drop i ys) ≡ all → difference_from (cond (get_or xs i 0 == 10) (line + 1) line) (drop (i + 1) xs)
+    (drop (i + 1) ys) ≡ all
 differ_on line i xs ys all lt lt2 is so_far =
     let one = subst (λ (t : List ℕ). difference_from line t (drop i ys) ≡ all) (next_byte xs i lt) so_far in
     let two = subst (λ (t : List ℕ). difference_from line (get_or xs i 0 ∷ drop (i + 1) xs) t ≡ all) (next_byte ys i lt2) one in
-    sym (ap (λ (b : Bool). cond b (difference_from (cond (get_or xs i 0 == 10) (line + 1) line) (drop (i + 1) xs) (drop (i + 1) ys)) (Some line)) is) ∙ two
+    sym (ap (λ (b : Bool). cond b (difference_from (cond (get_or xs i 0 == 10) (line + 1) line) (drop (i + 1) xs) (drop (i + 1) ys))
+    (Some line)) is) ∙ two
 
 not_same : (x y : ℕ) → x ≢ y → (x == y) ≡ false
 not_same x y other = grind (arith, nat_tests)
@@ -73,19 +79,23 @@ differ_here line i xs ys all lt lt2 other so_far =
     let is = not_same (get_or ys i 0) (get_or xs i 0) other in
     let one = subst (λ (t : List ℕ). difference_from line t (drop i ys) ≡ all) (next_byte xs i lt) so_far in
     let two = subst (λ (t : List ℕ). difference_from line (get_or xs i 0 ∷ drop (i + 1) xs) t ≡ all) (next_byte ys i lt2) one in
-    sym two ∙ ap (λ (b : Bool). cond b (difference_from (cond (get_or xs i 0 == 10) (line + 1) line) (drop (i + 1) xs) (drop (i + 1) ys)) (Some line)) is
+    sym two ∙ ap (λ (b : Bool). cond b (difference_from (cond (get_or xs i 0 == 10) (line + 1) line) (drop (i + 1) xs) (drop (i + 1) ys))
+    (Some line)) is
 
-pub second_ends : (line i : ℕ) (xs ys : List ℕ) (all : Option ℕ) → i < length xs → length ys ≤ i → difference_from line (drop i xs) (drop i ys) ≡ all → all ≡ Some line
+pub second_ends : (line i : ℕ) (xs ys : List ℕ) (all : Option ℕ) → i < length xs → length ys ≤ i
+    → difference_from line (drop i xs) (drop i ys) ≡ all → all ≡ Some line
 second_ends line i xs ys all lt le so_far =
     let one = subst (λ (t : List ℕ). difference_from line t (drop i ys) ≡ all) (next_byte xs i lt) so_far in
     sym (subst (λ (t : List ℕ). difference_from line (get_or xs i 0 ∷ drop (i + 1) xs) t ≡ all) (drop_all i ys le) one)
 
-pub first_ends : (line i : ℕ) (xs ys : List ℕ) (all : Option ℕ) → length xs ≤ i → i < length ys → difference_from line (drop i xs) (drop i ys) ≡ all → all ≡ Some line
+pub first_ends : (line i : ℕ) (xs ys : List ℕ) (all : Option ℕ) → length xs ≤ i → i < length ys
+    → difference_from line (drop i xs) (drop i ys) ≡ all → all ≡ Some line
 first_ends line i xs ys all le lt so_far =
     let one = subst (λ (t : List ℕ). difference_from line t (drop i ys) ≡ all) (drop_all i xs le) so_far in
     sym (subst (λ (t : List ℕ). difference_from line [] t ≡ all) (next_byte ys i lt) one)
 
-pub both_end : (line i : ℕ) (xs ys : List ℕ) (all : Option ℕ) → length xs ≤ i → length ys ≤ i → difference_from line (drop i xs) (drop i ys) ≡ all → all ≡ None
+pub both_end : (line i : ℕ) (xs ys : List ℕ) (all : Option ℕ) → length xs ≤ i → length ys ≤ i
+    → difference_from line (drop i xs) (drop i ys) ≡ all → all ≡ None
 both_end line i xs ys all le le2 so_far =
     let one = subst (λ (t : List ℕ). difference_from line t (drop i ys) ≡ all) (drop_all i xs le) so_far in
     sym (subst (λ (t : List ℕ). difference_from line [] t ≡ all) (drop_all i ys le2) one)
@@ -118,14 +128,19 @@ line_on x line front is = line_if (x == 10) line _ _ is (sum_by_push (λ (b : �
 
 -- after a common front, it is the line in which both texts differ
 by_byte : (same : Bool) (front : List ℕ) (line x y : ℕ) (xs ys : List ℕ) → (y == x) ≡ same → line ≡ line_behind front
-    → difference_from (cond (x == 10) (line + 1) line) xs ys ≡ differing 1 (lines ((front ++ x ∷ []) ++ xs)) (lines ((front ++ x ∷ []) ++ ys))
-    → cond same (difference_from (cond (x == 10) (line + 1) line) xs ys) (Some line) ≡ differing 1 (lines (front ++ x ∷ xs)) (lines (front ++ y ∷ ys))
+    → difference_from (cond (x == 10) (line + 1) line) xs ys ≡ differing 1 (lines ((front ++ x ∷ []) ++ xs))
+    (lines ((front ++ x ∷ []) ++ ys))
+    → cond same (difference_from (cond (x == 10) (line + 1) line) xs ys) (Some line) ≡ differing 1 (lines (front ++ x ∷ xs))
+    (lines (front ++ y ∷ ys))
 by_byte true front line x y xs ys test is later =
-    let left = subst (λ (t : List ℕ). difference_from (cond (x == 10) (line + 1) line) xs ys ≡ differing 1 (lines t) (lines ((front ++ x ∷ []) ++ ys)))
+    let left =
+    subst (λ (t : List ℕ). difference_from (cond (x == 10) (line + 1) line) xs ys ≡ differing 1 (lines t) (lines ((front ++ x ∷ []) ++ ys)))
     (append_assoc front (x ∷ []) xs) later in
-    let both = subst (λ (t : List ℕ). difference_from (cond (x == 10) (line + 1) line) xs ys ≡ differing 1 (lines (front ++ x ∷ xs)) (lines t))
+    let both =
+    subst (λ (t : List ℕ). difference_from (cond (x == 10) (line + 1) line) xs ys ≡ differing 1 (lines (front ++ x ∷ xs)) (lines t))
     (append_assoc front (x ∷ []) ys) left in
-    subst (λ (b : ℕ). difference_from (cond (x == 10) (line + 1) line) xs ys ≡ differing 1 (lines (front ++ x ∷ xs)) (lines (front ++ b ∷ ys)))
+    subst (λ (b : ℕ). difference_from (cond (x == 10) (line + 1) line) xs ys ≡ differing 1 (lines (front ++ x ∷ xs))
+    (lines (front ++ b ∷ ys)))
     (sym (same_byte x y test)) both
 by_byte false front line x y xs ys test is later =
     ap (λ (k : ℕ). Some k) is ∙ sym (differ_behind 1 front (x ∷ xs) (y ∷ ys) (other_byte x y test))

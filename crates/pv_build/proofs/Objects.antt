@@ -15,7 +15,8 @@ one_more files (n ∷ names) [] name o all has = absurd all
 one_more files (n ∷ names) (p ∷ os) name o all has = (all.0, one_more files names os name o all.1 has)
 
 -- a file after them that is no object
-pub first_fault : (files : Option FileMap) (before : List (List ℕ)) (os : List ObjectParts) (name : List ℕ) (later : List (List ℕ)) (fault : Fault)
+pub first_fault : (files : Option FileMap) (before : List (List ℕ)) (os : List ObjectParts) (name : List ℕ)
+    (later : List (List ℕ)) (fault : Fault)
     → HasObjects files before os → HasNoObject files name fault → FirstFault files (before ++ name ∷ later) (length before) fault
 first_fault files [] os name later fault all has = has
 first_fault files (n ∷ before) [] name later fault all has = absurd all
@@ -23,12 +24,14 @@ first_fault files (n ∷ before) (o ∷ os) name later fault all has = (o, all.0
 
 -- ---- names of which the first are read
 
-pub split_at : {A : Type 0} (f : A → List ℕ) (xs : List A) (i : ℕ) (x : A) → i < length xs → x ≡ get_or xs i x → map f xs ≡ map f (take i xs) ++ f x ∷ map f (drop (suc i) xs)
+pub split_at : {A : Type 0} (f : A → List ℕ) (xs : List A) (i : ℕ) (x : A) → i < length xs → x ≡ get_or xs i x
+    → map f xs ≡ map f (take i xs) ++ f x ∷ map f (drop (suc i) xs)
 split_at f [] i x lt is = absurd (omega arith)
 split_at f (y ∷ ys) zero x lt is = ap (λ z. f z ∷ map f ys) (sym is)
 split_at f (y ∷ ys) (suc i) x lt is = ap (λ l. f y ∷ l) (split_at f ys i x (omega arith) is)
 
-pub taken_on : {A : Type 0} (f : A → List ℕ) (xs : List A) (i : ℕ) (x : A) → i < length xs → x ≡ get_or xs i x → map f (take (suc i) xs) ≡ map f (take i xs) ++ f x ∷ []
+pub taken_on : {A : Type 0} (f : A → List ℕ) (xs : List A) (i : ℕ) (x : A) → i < length xs → x ≡ get_or xs i x
+    → map f (take (suc i) xs) ≡ map f (take i xs) ++ f x ∷ []
 taken_on f [] i x lt is = absurd (omega arith)
 taken_on f (y ∷ ys) zero x lt is = ap (λ z. f z ∷ []) (sym is)
 taken_on f (y ∷ ys) (suc i) x lt is = ap (λ l. f y ∷ l) (taken_on f ys i x (omega arith) is)
@@ -46,7 +49,8 @@ found_at files (n ∷ before) [] name later all finds = absurd all
 found_at files (n ∷ before) (o ∷ os) name later all finds = found_at files before os name later all.1 (finds.1 o all.0)
 
 -- the next name, over the files as they are then
-pub found_next : {A : Type 0} (f : A → List ℕ) (files now : Option FileMap) (xs : List A) (i : ℕ) (x : A) (name : List ℕ) (os : List ObjectParts) → i < length xs → x ≡ get_or xs i x → name ≡ f x
+pub found_next : {A : Type 0} (f : A → List ℕ) (files now : Option FileMap) (xs : List A) (i : ℕ) (x : A) (name : List ℕ)
+    (os : List ObjectParts) → i < length xs → x ≡ get_or xs i x → name ≡ f x
     → now ≡ files → HasObjects files (map f (take i xs)) os → FindsObjects files (map f xs) → IsHeld now name
 found_next f files now xs i x name os lt at is same all finds =
     let here = subst (λ (l : List (List ℕ)). FindsObjects files l) (split_at f xs i x lt at) finds in

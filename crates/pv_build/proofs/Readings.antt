@@ -4,7 +4,8 @@ use Rattle.pv_io.specs.declared.files.Files as disk
 use Rattle.pv_build.specs.Readings.{OnlyRead}
 
 -- files that were read again
-pub read_on : {F : Type 0} (f : disk.Ghosts F) (found more : Type 0) (a b c : F) → OnlyRead f found a b → OnlyRead f more b c → (found → more) → OnlyRead f found a c
+pub read_on : {F : Type 0} (f : disk.Ghosts F) (found more : Type 0) (a b c : F) → OnlyRead f found a b → OnlyRead f more b c
+    → (found → more) → OnlyRead f found a c
 read_on f found more a b c first later finds = record {
   held = later.held ∙ first.held;
   same_sure = later.same_sure ∙ first.same_sure;
@@ -14,7 +15,8 @@ read_on f found more a b c first later finds = record {
 }
 
 -- the same of files that are among those
-pub read_for : {F : Type 0} (f : disk.Ghosts F) (found more : Type 0) (a b : F) → OnlyRead f more a b → (found → more) → OnlyRead f found a b
+pub read_for : {F : Type 0} (f : disk.Ghosts F) (found more : Type 0) (a b : F) → OnlyRead f more a b → (found → more)
+    → OnlyRead f found a b
 read_for f found more a b read finds = record {
   held = read.held;
   same_sure = read.same_sure;

@@ -30,4 +30,5 @@ abbrev pub format_words : ℕ → List ℕ
 format_words format = if format == 2 then codes " format 2" else codes " format 1"
 
 abbrev pub accepted_line : Image → List ℕ
-accepted_line image = sizes_line (codes "accepted") (length image.text) (length image.init) image.bss (length image.sites) (format_words image.format)
+accepted_line image =
+    sizes_line (codes "accepted") (length image.text) (length image.init) image.bss (length image.sites) (format_words image.format)

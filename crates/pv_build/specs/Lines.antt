@@ -53,7 +53,10 @@ check_number check.EntryStart = 71
 -- how many bytes of text, of data and of zeroed data something has, and how many sites
 abbrev pub sizes_line : List ℕ → ℕ → ℕ → ℕ → ℕ → List ℕ → List ℕ
 sizes_line what text init bss sites tail =
-    what ++ (codes " text " ++ (decimal text ++ (codes " data " ++ (decimal init ++ (codes " bss " ++ (decimal bss ++ (codes " sites " ++ (decimal sites ++ (tail ++ codes "\n")))))))))
+    what
+    ++ (codes " text " ++ (decimal text
+    ++ (codes " data " ++ (decimal init
+    ++ (codes " bss " ++ (decimal bss ++ (codes " sites " ++ (decimal sites ++ (tail ++ codes "\n")))))))))
 
 -- a refusal at an offset of a file
 abbrev pub place_line : ℕ → ℕ → List ℕ
@@ -76,10 +79,12 @@ too_small_line need have = codes "refused 90 need " ++ (decimal need ++ (codes "
 
 -- a refusal of an object, counted from 0: at an offset, with the bytes of a name, or alone
 abbrev pub object_place_line : ℕ → ℕ → ℕ → List ℕ
-object_place_line number object at = codes "refused " ++ (decimal number ++ (codes " object " ++ (decimal object ++ (codes " at " ++ (decimal at ++ codes "\n")))))
+object_place_line number object at =
+    codes "refused " ++ (decimal number ++ (codes " object " ++ (decimal object ++ (codes " at " ++ (decimal at ++ codes "\n")))))
 
 abbrev pub object_name_line : ℕ → ℕ → List ℕ → List ℕ
-object_name_line number object name = codes "refused " ++ (decimal number ++ (codes " object " ++ (decimal object ++ (codes " name " ++ (name ++ codes "\n")))))
+object_name_line number object name =
+    codes "refused " ++ (decimal number ++ (codes " object " ++ (decimal object ++ (codes " name " ++ (name ++ codes "\n")))))
 
 abbrev pub object_line : ℕ → ℕ → List ℕ
 object_line number object = codes "refused " ++ (decimal number ++ (codes " object " ++ (decimal object ++ codes "\n")))
@@ -98,7 +103,10 @@ link_line object cause = cause_line (number cause) object cause
 -- second run's trace, and how many fills
 abbrev pub work_line : ℕ → ℕ → ℕ → ℕ → ℕ → List ℕ
 work_line number text sites items fills =
-    codes "work " ++ (decimal number ++ (codes " text " ++ (decimal text ++ (codes " sites " ++ (decimal sites ++ (codes " items " ++ (decimal items ++ (codes " fills " ++ (decimal fills ++ codes "\n")))))))))
+    codes "work "
+    ++ (decimal number ++ (codes " text "
+    ++ (decimal text ++ (codes " sites "
+    ++ (decimal sites ++ (codes " items " ++ (decimal items ++ (codes " fills " ++ (decimal fills ++ codes "\n")))))))))
 
 -- two texts are the same, or the first of their lines, from 1, that differs or is missing
 abbrev pub same_line : List ℕ

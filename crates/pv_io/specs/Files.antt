@@ -13,7 +13,8 @@ Holds (Some files) name bytes = files name ≡ Some bytes
 -- where the files are told, a store changes this name alone
 abbrev pub Stores : Option FileMap → Option FileMap → List ℕ → List ℕ → Type 0
 Stores None new name bytes = Unit {0}
-Stores (Some old) new name bytes = (files : FileMap) × (new ≡ Some files) × ((q : List ℕ) → files q ≡ (if bytes_eq q name then Some bytes else old q))
+Stores (Some old) new name bytes =
+    (files : FileMap) × (new ≡ Some files) × ((q : List ℕ) → files q ≡ (if bytes_eq q name then Some bytes else old q))
 
 -- the same, with whatever bytes at the name
 abbrev pub ChangesAt : Option FileMap → Option FileMap → List ℕ → Type 0

@@ -21,7 +21,8 @@ pub record AreNamed (image : Image) (flags : List Bool) (done : List Swept) : Ty
   pub len : length flags ≡ length image.text
 
 pub one_named : (image : Image) (s : Swept) (old new : List Bool) (done : List Swept) → AreNamed image old done
-    → ((i : ℕ) → i < length old → slice_index_or new i false ≡ (slice_index_or old i false || is_at i (named_by image s))) → length new ≡ length old
+    → ((i : ℕ) → i < length old → slice_index_or new i false ≡ (slice_index_or old i false || is_at i (named_by image s)))
+    → length new ≡ length old
     → AreNamed image new (done ++ s ∷ [])
 one_named image s old new done h marked same = record {
   flags_are = λ i lt.
@@ -32,12 +33,15 @@ one_named image s old new done h marked same = record {
 }
 
 -- after the last one they are all
-pub all_named : (image : Image) (flags : List Bool) (at : ℕ) (done rest : List Swept) → Reached image.text at done rest → length image.text ≤ at → AreNamed image flags done
+pub all_named : (image : Image) (flags : List Bool) (at : ℕ) (done rest : List Swept) → Reached image.text at done rest
+    → length image.text ≤ at → AreNamed image flags done
     → (i : ℕ) → i < length image.text → slice_index_or flags i false ≡ is_named image i
 unfolding is_named
-all_named image flags at done rest r le h i lt = h.flags_are i lt ∙ ap (λ (xs : List Swept). list_any (names image i) xs) (all_done image.text at done rest r le)
+all_named image flags at done rest r le h i lt =
+    h.flags_are i lt ∙ ap (λ (xs : List Swept). list_any (names image i) xs) (all_done image.text at done rest r le)
 
 -- the flag at an instruction
 pub is_labelled : (image : Image) (flags : List Bool) (h : Here) (at : ℕ) → h.at ≡ at → at < length image.text
-    → ((i : ℕ) → i < length image.text → slice_index_or flags i false ≡ is_named image i) → slice_index_or flags at false ≡ is_named image h.at
+    → ((i : ℕ) → i < length image.text → slice_index_or flags i false ≡ is_named image i)
+    → slice_index_or flags at false ≡ is_named image h.at
 is_labelled image flags h at place lt are = are at lt ∙ ap (is_named image) (sym place)

@@ -15,10 +15,13 @@ use Rattle.pv_tasks.proofs.Deliveries.{says}
 use Rattle.pv_look.specs.Listing.{listing, listed, Lists, list_task}
 
 -- a file that is not accepted
-pub refuses_image : (files : Option FileMap) (name line : List ℕ) → (refusal : Refusal) × HasNoImage files name refusal × (line ≡ image_line refusal) → Lists files name (refused line)
+pub refuses_image : (files : Option FileMap) (name line : List ℕ) → (refusal : Refusal) × HasNoImage files name refusal
+    × (line ≡ image_line refusal) → Lists files name (refused line)
 refuses_image files name line h = (h.1.0, h.1.1, ap refused h.2 ∙ sym (ap listed h.1.2))
 
 -- an accepted image whose listing was put
-pub lists_image : (name : List ℕ) (image : Image) (o : Outside) (st : Status) → HasImage o.before.files name image → o.after.files ≡ o.before.files → o.after.completed ≡ o.before.completed
+pub lists_image : (name : List ℕ) (image : Image) (o : Outside) (st : Status) → HasImage o.before.files name image
+    → o.after.files ≡ o.before.files → o.after.completed ≡ o.before.completed
     → Says (listing image) status.Done o.before.taken o.after.taken o.before.puts o.after.puts st → Means (list_task name) o st
-lists_image name image o st has same none said = says (list_task name) o (printed (listing image)) st tt refl (has.0, has.1, sym (ap listed has.2)) same (λ end. none) said
+lists_image name image o st has same none said =
+    says (list_task name) o (printed (listing image)) st tt refl (has.0, has.1, sym (ap listed has.2)) same (λ end. none) said

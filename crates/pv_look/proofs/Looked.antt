@@ -8,8 +8,10 @@ use Rattle.pv_tasks.specs.Tasks.{Task, Means}
 use Rattle.look_words.specs.Words.{Look}
 
 -- no form ends as words that are none
-pub not_words : (task : Task) (o : Counts → List ℕ → Outside) (st : Status) → ((completed : Counts) (memory : List ℕ) → Means task (o completed memory) st) → st ≡ status.Words → ⊥
-not_words task o st means is = let none : Counts = record { retired = 0; passed = 0 } in subst (λ (s : Status). Means task (o none []) s) is (means none [])
+pub not_words : (task : Task) (o : Counts → List ℕ → Outside) (st : Status)
+    → ((completed : Counts) (memory : List ℕ) → Means task (o completed memory) st) → st ≡ status.Words → ⊥
+not_words task o st means is = let none : Counts =
+    record { retired = 0; passed = 0 } in subst (λ (s : Status). Means task (o none []) s) is (means none [])
 
 some_is_none : (look : Look) → Some look ≡ None → ⊥
 some_is_none look e = cc

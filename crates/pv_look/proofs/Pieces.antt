@@ -13,7 +13,8 @@ two_pieces line a b r1 r2 p q = q ∙ (ap (λ (l : List ℕ). l ++ b) p ∙ appe
 pub three_pieces : (line a b c r1 r2 r3 : List ℕ) → r1 ≡ line ++ a → r2 ≡ r1 ++ b → r3 ≡ r2 ++ c → r3 ≡ line ++ (a ++ b ++ c)
 three_pieces line a b c r1 r2 r3 p q r = two_pieces line (a ++ b) c r2 r3 (two_pieces line a b r1 r2 p q) r
 
-pub four_pieces : (line a b c d r1 r2 r3 r4 : List ℕ) → r1 ≡ line ++ a → r2 ≡ r1 ++ b → r3 ≡ r2 ++ c → r4 ≡ r3 ++ d → r4 ≡ line ++ (a ++ b ++ c ++ d)
+pub four_pieces : (line a b c d r1 r2 r3 r4 : List ℕ) → r1 ≡ line ++ a → r2 ≡ r1 ++ b → r3 ≡ r2 ++ c → r4 ≡ r3 ++ d → r4 ≡ line
+    ++ (a ++ b ++ c ++ d)
 four_pieces line a b c d r1 r2 r3 r4 p q r s = two_pieces line (a ++ b ++ c) d r3 r4 (three_pieces line a b c r1 r2 r3 p q r) s
 
 -- one byte more
@@ -25,9 +26,11 @@ pub no_bytes : (line : List ℕ) → line ≡ line ++ bytes_text []
 unfolding bytes_text
 no_bytes line = sym (append-nil line)
 
-pub more_bytes : (xs : List ℕ) (i : ℕ) → i < length xs → bytes_text (take (i + 1) xs) ≡ bytes_text (take i xs) ++ codes " " ++ hex2 (get_or xs i 0)
+pub more_bytes : (xs : List ℕ) (i : ℕ) → i < length xs → bytes_text (take (i + 1) xs) ≡ bytes_text (take i xs) ++ codes " "
+    ++ hex2 (get_or xs i 0)
 more_bytes xs i lt =
-    ap bytes_text (take_more xs i 0 lt) ∙ (one_byte (take i xs) (get_or xs i 0) ∙ sym (append_assoc (bytes_text (take i xs)) (codes " ") (hex2 (get_or xs i 0))))
+    ap bytes_text (take_more xs i 0 lt)
+    ∙ (one_byte (take i xs) (get_or xs i 0) ∙ sym (append_assoc (bytes_text (take i xs)) (codes " ") (hex2 (get_or xs i 0))))
 
 -- what a site of up to eleven bytes is patched to is a front of what one of eleven bytes is
 pub patched_front : (n : ℕ) → 1 ≤ n → n ≤ 11 → take n (233 ∷ 244 ∷ 244 ∷ 244 ∷ 244 ∷ 244 ∷ 244 ∷ 244 ∷ 244 ∷ 244 ∷ 244 ∷ []) ≡ patch_bytes n

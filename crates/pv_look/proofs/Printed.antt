@@ -20,13 +20,16 @@ abbrev pub put_of : Image → List Swept → List ℕ
 put_of image done = head ++ flat_map (lines_of image) done
 
 -- one more
-pub one_put : (image : Image) (s : Swept) (done : List Swept) (a b c : Option (List ℕ)) → Appends a b (put_of image done) → Appends b c (lines_of image s)
+pub one_put : (image : Image) (s : Swept) (done : List Swept) (a b c : Option (List ℕ)) → Appends a b (put_of image done)
+    → Appends b c (lines_of image s)
     → Appends a c (put_of image (done ++ s ∷ []))
 one_put image s done a b c p q =
-    subst (λ (text : List ℕ). Appends a c text) (flat_map_more (lines_of image) head done s) (appends_both a b c (put_of image done) (lines_of image s) p q)
+    subst (λ (text : List ℕ). Appends a c text) (flat_map_more (lines_of image) head done s)
+    (appends_both a b c (put_of image done) (lines_of image s) p q)
 
 -- all
-pub all_put : (image : Image) (at : ℕ) (done rest : List Swept) (a b : Option (List ℕ)) → Reached image.text at done rest → length image.text ≤ at
+pub all_put : (image : Image) (at : ℕ) (done rest : List Swept) (a b : Option (List ℕ)) → Reached image.text at done rest
+    → length image.text ≤ at
     → Appends a b (put_of image done) → Appends a b (listing image)
 unfolding listing
 all_put image at done rest a b r le p = subst (λ (xs : List Swept). Appends a b (put_of image xs)) (all_done image.text at done rest r le) p
@@ -36,10 +39,12 @@ split : (image : Image) (s : Swept) (done rest more : List Swept) → done ++ re
 unfolding listing
 split image s done rest more whole is =
     ap (λ (xs : List Swept). head ++ flat_map (lines_of image) xs) (sym whole ∙ ap (λ (r : List Swept). done ++ r) is)
-    ∙ (ap (λ (text : List ℕ). head ++ text) (flat_map-append (lines_of image) done (s ∷ more)) ∙ sym (append_assoc head (flat_map (lines_of image) done) (lines_of image s ++ flat_map (lines_of image) more)))
+    ∙ (ap (λ (text : List ℕ). head ++ text) (flat_map-append (lines_of image) done (s ∷ more))
+    ∙ sym (append_assoc head (flat_map (lines_of image) done) (lines_of image s ++ flat_map (lines_of image) more)))
 
 -- a front of one more is a front of the listing
-pub cut_within : (image : Image) (h : Here) (at : ℕ) (done rest : List Swept) (a b c : Option (List ℕ)) → Reached image.text at done rest → GoesOn image.text h done rest
+pub cut_within : (image : Image) (h : Here) (at : ℕ) (done rest : List Swept) (a b c : Option (List ℕ)) → Reached image.text at done rest
+    → GoesOn image.text h done rest
     → Appends a b (put_of image done) → AppendsFront b c (lines_of image (swept h)) → AppendsFront a c (listing image)
 cut_within image h at done rest a b c r g p q =
     front_of a b c (put_of image done) (lines_of image (swept h)) (flat_map (lines_of image) g.more) (listing image) p q
@@ -51,6 +56,7 @@ unfolding listing
 cut_at_head image a b q = record {
   front = q.front;
   rest = q.rest ++ flat_map (lines_of image) (swept_of image.text);
-  whole = sym (append_assoc q.front q.rest (flat_map (lines_of image) (swept_of image.text))) ∙ ap (λ (text : List ℕ). text ++ flat_map (lines_of image) (swept_of image.text)) q.whole;
+  whole = sym (append_assoc q.front q.rest (flat_map (lines_of image) (swept_of image.text)))
+      ∙ ap (λ (text : List ℕ). text ++ flat_map (lines_of image) (swept_of image.text)) q.whole;
   taken = q.taken;
 }

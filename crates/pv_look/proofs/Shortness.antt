@@ -11,11 +11,13 @@ use Rattle.pv_look.specs.Parts.{part_at}
 use Rattle.pv_look.specs.Room.{IsShort}
 
 -- by the instruction that begins it
-pub short_site : (site : Site) (s : Swept) → BeginsSite site s → s.len ≤ 11 → site.total ≡ max 5 site.len → (1 ≤ site.total) × (site.total ≤ 11)
+pub short_site : (site : Site) (s : Swept) → BeginsSite site s → s.len ≤ 11 → site.total ≡ max 5 site.len
+    → (1 ≤ site.total) × (site.total ≤ 11)
 short_site site s (inl alone) few total = let same = alone.len in (omega (arith, total), omega (arith, total, same))
 short_site site s (inr pair) few total = let two = pair.pair.1 in (omega (arith, total), omega (arith, total, two))
 
-by_tests : (a b : Bool) (s : Site) → (1 ≤ s.total) × (s.total ≤ 11) → IsShort (if a then part.Site s else if b then part.Padding else part.Alone)
+by_tests : (a b : Bool) (s : Site) → (1 ≤ s.total) × (s.total ≤ 11)
+    → IsShort (if a then part.Site s else if b then part.Padding else part.Alone)
 by_tests true b s h = h
 by_tests false true s h = tt
 by_tests false false s h = tt

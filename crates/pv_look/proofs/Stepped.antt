@@ -19,7 +19,8 @@ use Rattle.step_trace.specs.Answers.{TraceAnswers}
 use Rattle.pv_look.specs.Stepping.{TracesBare}
 
 -- what a trace answered was reported
-pub ran_steps : (image : Image) (events : Events) (frames n from : ℕ) (only : Only) (old mid new : Option (List ℕ)) (before middle now : ℕ) (r : Result Ended RunFault) (c : Counts) (memory : List ℕ) (st : Status)
+pub ran_steps : (image : Image) (events : Events) (frames n from : ℕ) (only : Only) (old mid new : Option (List ℕ)) (before middle now : ℕ)
+    (r : Result Ended RunFault) (c : Counts) (memory : List ℕ) (st : Status)
     → TraceAnswers image events frames n from only old mid before middle r → ToldAs r mid new middle now st
     → RanAs (RunsOn (TracesBare frames n from only image events) image frames) (around_of old new before now c c) memory st
 ran_steps image events frames n from only old mid new before middle now (Ok e) c memory st h told =
@@ -43,8 +44,10 @@ ran_steps image events frames n from only old mid new before middle now (Err (fa
       says_from (too_small_line small.need small.have) old mid new before middle now st h.2 h.3 said,
       λ end. refl,
     )
-ran_steps image events frames n from only old mid new before middle now (Err (fault.TooSmall small)) c memory st h (inr none) = inr (none.0, none.1 ∙ h.2, refl, none.2 ∙ h.3)
-ran_steps image events frames n from only old mid new before middle now (Err fault.Memory) c memory st h told = inr (told.0, told.1 ∙ h.0, refl, told.2 ∙ h.1)
+ran_steps image events frames n from only old mid new before middle now (Err (fault.TooSmall small)) c memory st h (inr none) =
+    inr (none.0, none.1 ∙ h.2, refl, none.2 ∙ h.3)
+ran_steps image events frames n from only old mid new before middle now (Err fault.Memory) c memory st h told =
+    inr (told.0, told.1 ∙ h.0, refl, told.2 ∙ h.1)
 
 pub steps_end : (frames n from : ℕ) (only : Only) → AreEnds (TracesBare frames n from only)
 steps_end frames n from only image events w h = subst (λ (v : Outcome). HasEnded v.status) (sym h.comes) (has_ended h.end)

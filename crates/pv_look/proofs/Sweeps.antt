@@ -30,18 +30,21 @@ record First (text : List ℕ) (at : ℕ) (rest : List Swept) : Type 0 where
   begins : Begins (drop at text) s.insn s.len
   on : SweepsTo (at + s.len) (drop s.len (drop at text)) more (length text) []
 
-first : (text : List ℕ) (at : ℕ) (rest : List Swept) → SweepsTo at (drop at text) rest (length text) [] → at < length text → First text at rest
+first : (text : List ℕ) (at : ℕ) (rest : List Swept) → SweepsTo at (drop at text) rest (length text) [] → at < length text
+    → First text at rest
 first text at [] h lt = let end = h.0 in absurd (omega (arith, end))
 first text at (s ∷ more) h lt = record { s = s; more = more; whole = refl; place = h.0; begins = h.1; on = h.2 }
 
 -- what stands there is decoded
-pub begins_there : (text : List ℕ) (at : ℕ) (done rest : List Swept) (d : Decoded) → Reached text at done rest → at < length text → Says d (drop at text)
+pub begins_there : (text : List ℕ) (at : ℕ) (done rest : List Swept) (d : Decoded) → Reached text at done rest → at < length text
+    → Says d (drop at text)
     → (insn : Insn) × (n : ℕ) × (d ≡ answer.Insn insn n)
 begins_there text at done rest d r lt says =
     let f = first text at rest r.on lt in
     (f.s.insn, f.s.len, (says f.s.insn f.s.len).1 f.begins)
 
-same_parts : (a b l m : ℕ) (i j : Insn) → a ≡ b → l ≡ m → i ≡ j → (let s : Swept = record { at = a; len = l; insn = i } in s) ≡ record { at = b; len = m; insn = j }
+same_parts : (a b l m : ℕ) (i j : Insn) → a ≡ b → l ≡ m → i ≡ j → (let s : Swept = record { at = a; len = l; insn = i } in s)
+    ≡ record { at = b; len = m; insn = j }
 same_parts a b l m i j p q r = cc
 
 -- and it is the next of the sweep
@@ -66,7 +69,8 @@ goes_on text at insn n lt says done rest r =
     }
 
 -- it is one of the text
-pub stands : (text : List ℕ) (h : Here) (at : ℕ) (done rest : List Swept) → Reached text at done rest → GoesOn text h done rest → Contains (swept_of text) (swept h)
+pub stands : (text : List ℕ) (h : Here) (at : ℕ) (done rest : List Swept) → Reached text at done rest → GoesOn text h done rest
+    → Contains (swept_of text) (swept h)
 stands text h at done rest r g =
     subst (λ (xs : List Swept). Contains xs (swept h)) (ap (λ (xs : List Swept). done ++ xs) (sym g.whole) ∙ r.whole)
     (Contains-append_right done (swept h ∷ g.more) (swept h) (0, omega arith, refl))
@@ -75,7 +79,8 @@ stands text h at done rest r g =
 pub begun : (image : Image) → Sweep image.text (swept_of image.text) → Reached image.text 0 [] (swept_of image.text)
 begun image sweeps = record { whole = refl; on = sweeps }
 
-pub none_left : (text : List ℕ) (at : ℕ) (rest : List Swept) → SweepsTo at (drop at text) rest (length text) [] → length text ≤ at → rest ≡ []
+pub none_left : (text : List ℕ) (at : ℕ) (rest : List Swept) → SweepsTo at (drop at text) rest (length text) []
+    → length text ≤ at → rest ≡ []
 none_left text at [] h le = refl
 none_left text at (s ∷ more) h le =
     let some = begun_has_byte (drop at text) s.insn s.len h.1 in

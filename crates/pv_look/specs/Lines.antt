@@ -82,7 +82,8 @@ note_text part.Alone fields = spelling_text fields
 
 abbrev pub line_with : Image → Swept → Option Wide → List ℕ
 line_with image s fields =
-    in_column (statement_text (part_of image s) fields s) ++ place_text s.at (bytes_of image.text s) ++ note_text (part_of image s) fields ++ codes "\n"
+    in_column (statement_text (part_of image s) fields s) ++ place_text s.at (bytes_of image.text s)
+    ++ note_text (part_of image s) fields ++ codes "\n"
 
 unfoldable pub lines_with : Image → Bool → Swept → List ℕ
 lines_with image labelled s = labels_text image labelled s ++ line_with image s (named_fields s.insn (bytes_of image.text s))

@@ -21,4 +21,5 @@ pub record TracesBare (frames n from : ℕ) (only : Only) (image : Image) (event
 -- what `steps` asks for: up to the step n, with the lines of the steps from one on that are asked for
 abbrev pub steps_task : RunAsked → (from n : ℕ) → Only → Task
 steps_task run from n only =
-    plain (λ files w. Runs (TracesBare run.frames n from only) run.frames files run.image run.script w) (λ files. FindsRun files run.image run.script)
+    plain (λ files w. Runs (TracesBare run.frames n from only) run.frames files run.image run.script w)
+    (λ files. FindsRun files run.image run.script)

@@ -37,7 +37,13 @@ certificate_told notes = if are_few notes then certificate_line (length notes) e
 
 -- the text of the run is printed, then the certificate is stored, and then its line is printed
 abbrev pub proved_as : List ℕ → HostedRun → List Note → Outcome
-proved_as name r notes = record { status = status_of r.end; first = run_text r; stored = certificate_file name notes; text = certificate_told notes; hosted = EndedRun r }
+proved_as name r notes = record {
+  status = status_of r.end;
+  first = run_text r;
+  stored = certificate_file name notes;
+  text = certificate_told notes;
+  hosted = EndedRun r;
+}
 
 -- A run from boot uses the translations that these notes report; so does its step that stops. Its text is judged yes by
 -- their choices, or yes before a stop of the monitor's own.
@@ -50,10 +56,12 @@ pub record ProvesRun (frames n : ℕ) (name : List ℕ) (image : Image) (events 
   pub notes : List Note
   pub told : AreTold (wedge image events frames) (boot (wedge image events frames)) sets notes
   pub stops : StopsTold (wedge image events frames) last notes end
-  pub proved : IsProved image events frames n (run_text (record { setting = wedge image events frames; sets = sets; reports = reports; last = last; end = end })) end notes
+  pub proved : IsProved image events frames n
+      (run_text (record { setting = wedge image events frames; sets = sets; reports = reports; last = last; end = end })) end notes
   pub are_notes : AreNotes (wedge image events frames) (boot (wedge image events frames)) sets last.step notes
   pub behind : AreHeldBehind last notes
-  pub comes : w ≡ proved_as name (record { setting = wedge image events frames; sets = sets; reports = reports; last = last; end = end }) notes
+  pub comes : w ≡ proved_as name (record { setting = wedge image events frames; sets = sets; reports = reports; last = last; end = end })
+      notes
 
 -- what is printed first where the run's output fails: the text of a run, of which the notes aren't known
 pub record ProvesText (frames n : ℕ) (image : Image) (events : Events) (text : List ℕ) : Type 0 where
@@ -79,7 +87,8 @@ prove_task image script frames n certificate =
     record (plain (λ files w. Runs (ProvesRun frames n certificate) frames files image script w) (λ files. FindsRun files image script)) {
       saved = Some certificate;
       runs_first = true;
-      begins = λ files text. (program : Image) × (events : Events) × HasImage files image program × HasScript files script events × (need program ≤ frames)
+      begins = λ files text. (program : Image) × (events : Events) × HasImage files image program × HasScript files script events
+          × (need program ≤ frames)
           × ProvesText frames n program events text;
       half_done = λ o. PrintsOnly (λ files w. Runs (ProvesRun frames n certificate) frames files image script w) o;
       on_host = true;

@@ -29,4 +29,5 @@ Replays frames n files certificate text image events w =
 -- what `replay` asks for
 abbrev pub replay_task : List ℕ → List ℕ → ℕ → ℕ → List ℕ → List ℕ → Task
 replay_task image script frames n certificate text =
-    plain (λ files w. Reads (Replays frames n files certificate text) files image script w) (λ files. FindsReplay files image script certificate text)
+    plain (λ files w. Reads (Replays frames n files certificate text) files image script w)
+    (λ files. FindsReplay files image script certificate text)

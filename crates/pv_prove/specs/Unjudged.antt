@@ -15,5 +15,6 @@ HasNoChoices files name at = (file : List ℕ) × Holds files name file × (choi
 -- why there is nothing to judge: the image or the script, or then the certificate's form
 pub data NoReplay (files : Option FileMap) (image script certificate line : List ℕ) : Type 0 where
   NoRunnable : NoRun files image script line → NoReplay files image script certificate line
-  NoChoices : (program : Image) (events : Events) (at : ℕ) → HasImage files image program → HasScript files script events → HasNoChoices files certificate at
+  NoChoices : (program : Image) (events : Events) (at : ℕ) → HasImage files image program → HasScript files script events
+      → HasNoChoices files certificate at
       → line ≡ certificate_refusal at → NoReplay files image script certificate line

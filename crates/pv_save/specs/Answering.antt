@@ -29,18 +29,22 @@ HostStepped on image events frames a memory reports =
 -- what a run answers that rests: from the start, or from a checkpoint's state
 abbrev pub AnswersStart : RunMode → ℕ → ℕ → Image → Events → Around → List ℕ → Result Rested RunFault → Type 0
 AnswersStart on frames n image events a memory result =
-    RestsFromStart (setting_on on image events frames) n (HostStepped on image events frames a memory) a.taken a.taken_after a.faults a.faults_after result
+    RestsFromStart (setting_on on image events frames) n (HostStepped on image events frames a memory) a.taken a.taken_after a.faults
+    a.faults_after result
 
 abbrev pub AnswersState : RunMode → ℕ → Image → Events → State → Around → List ℕ → Result Rested RunFault → Type 0
 AnswersState on n image events s a memory result =
-    RestsAs (setting_on on image events (frames_of s)) n (rested_from s) (HostStepped on image events (frames_of s) a memory) a.taken a.taken_after a.faults
+    RestsAs (setting_on on image events (frames_of s)) n (rested_from s) (HostStepped on image events (frames_of s) a memory) a.taken
+    a.taken_after a.faults
     a.faults_after result
 
 -- what a run answers that goes on from a checkpoint's state to its end
 abbrev pub AnswersOnwards : RunMode → ℕ → Image → Events → State → Around → List ℕ → Result Ended RunFault → Type 0
 AnswersOnwards mode.Bare n image events s a memory result =
-    WholeAs (bare image events (frames_of s)) n (rested_from s) a.taken a.taken_after a.faults a.faults_after result × (a.counts_after ≡ a.counts)
-AnswersOnwards mode.Wedge n image events s a memory result = WedgeGoesTo (wedge image events (frames_of s)) n (rested_from s) a memory result
+    WholeAs (bare image events (frames_of s)) n (rested_from s) a.taken a.taken_after a.faults a.faults_after result
+    × (a.counts_after ≡ a.counts)
+AnswersOnwards mode.Wedge n image events s a memory result =
+    WedgeGoesTo (wedge image events (frames_of s)) n (rested_from s) a memory result
 
 -- a checkpoint can be made of the state, where there is one
 abbrev pub HasForm : Result Rested RunFault → Type 0

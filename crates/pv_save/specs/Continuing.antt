@@ -30,10 +30,18 @@ pub record ContinuesOn (on : RunMode) (n : ℕ) (image : Image) (events : Events
   pub last : model.State
   pub end : End
   pub run : Run (setting_on on image events (frames_of s)) n (rested_from s) sets reports last end
-  pub comes : w ≡ (let r : HostedRun = record { setting = setting_on on image events (frames_of s); sets = sets; reports = reports; last = last; end = end } in
-      told (status_of end) (run_text r) (run_on on (rested_from s) r (stopping (setting_on on image events (frames_of s)) n last end run.ends)))
+  pub comes : w ≡ (let r : HostedRun = record {
+    setting = setting_on on image events (frames_of s);
+    sets = sets;
+    reports = reports;
+    last = last;
+    end = end;
+  } in
+      told (status_of end) (run_text r)
+      (run_on on (rested_from s) r (stopping (setting_on on image events (frames_of s)) n last end run.ends)))
 
 -- what `continue` asks for
 abbrev pub continue_task : RunMode → List ℕ → List ℕ → List ℕ → ℕ → Task
 continue_task on image script file n =
-    record (plain (λ files w. Reads (FromFile (ContinuesOn on n) on n files file) files image script w) (λ files. FindsState files image script file)) { on_host = is_wedge on }
+    record (plain (λ files w. Reads (FromFile (ContinuesOn on n) on n files file) files image script w)
+    (λ files. FindsState files image script file)) { on_host = is_wedge on }

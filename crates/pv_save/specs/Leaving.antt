@@ -15,7 +15,8 @@ use Rattle.pv_tasks.specs.Delivery.{Delivers}
 -- doesn't rest is reported as it ended, and changes no file.
 abbrev pub LeavesAs : Result Rested RunFault → List ℕ → Outside → Status → Type 0
 LeavesAs (Ok (rest.At state)) name o result =
-    (Delivers name (checkpoint_bytes state) (saved_line state.step) status.Done o result × (checkpoint_in (checkpoint_bytes state) ≡ Ok state))
+    (Delivers name (checkpoint_bytes state) (saved_line state.step) status.Done o result
+    × (checkpoint_in (checkpoint_bytes state) ≡ Ok state))
     ⊎ ((result ≡ status.Memory) × (o.after.taken ≡ o.before.taken) × (o.after.files ≡ o.before.files))
 LeavesAs (Ok (rest.Stopped ended)) name o result =
     ToldAs (Ok ended) o.before.taken o.after.taken o.before.puts o.after.puts result × (o.after.files ≡ o.before.files)

@@ -20,7 +20,8 @@ use Rattle.pv_words.specs.declared.mode.RunMode.{RunMode}
 -- the lines of a run that has done all its steps were printed, and the host has done its part of them
 abbrev pub PrintsLines : RunMode → Setting → ℕ → model.State → Outside → Type 0
 PrintsLines on m n old o =
-    (last : model.State) × (text : List ℕ) × RestsTo m n old (λ reports. HostDid (steps_on on m reports) o.before.completed o.after.completed o.after.memory) text last ends.Bound
+    (last : model.State) × (text : List ℕ)
+    × RestsTo m n old (λ reports. HostDid (steps_on on m reports) o.before.completed o.after.completed o.after.memory) text last ends.Bound
     × Appends o.before.taken o.after.taken text
 
 -- a state was stored, and is read back
@@ -41,7 +42,8 @@ save_task on image script frames n file =
 
 abbrev pub save_from_task : RunMode → List ℕ → List ℕ → List ℕ → ℕ → List ℕ → Task
 save_from_task on image script file n new =
-    record (plain (λ files w. Reads (FromFile (SavesOn on n new) on n files file) files image script w) (λ files. FindsState files image script file)) {
+    record (plain (λ files w. Reads (FromFile (SavesOn on n new) on n files file) files image script w)
+    (λ files. FindsState files image script file)) {
       saved = Some new;
       leaves = λ old later. LeavesState new old later;
       runs_first = true;

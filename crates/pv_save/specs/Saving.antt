@@ -41,7 +41,8 @@ steps_on mode.Wedge m reports = SomeSteps m reports
 
 -- the lines are printed, then the file is stored, and then it is printed after how many steps
 abbrev pub saved_as : List ℕ → List ℕ → ℕ → List ℕ → HostPart → Outcome
-saved_as name bytes steps lines hosted = record { status = status.Done; first = lines; stored = Some (name, bytes); text = saved_line steps; hosted = hosted }
+saved_as name bytes steps lines hosted =
+    record { status = status.Done; first = lines; stored = Some (name, bytes); text = saved_line steps; hosted = hosted }
 
 -- All steps were done, from this state on, and the last state is read back from its file.
 pub record SavesRest (on : RunMode) (m : Setting) (n : ℕ) (old : model.State) (name : List ℕ) (w : Outcome) : Type 0 where
@@ -73,7 +74,8 @@ RestsText m n old text = (last : model.State) × (end : End) × RestsTo m n old 
 
 -- from boot
 abbrev pub SavesBoot : RunMode → ℕ → ℕ → List ℕ → Image → Events → Outcome → Type 0
-SavesBoot on frames n name image events w = SavesRun on (setting_on on image events frames) n (boot (setting_on on image events frames)) name w
+SavesBoot on frames n name image events w =
+    SavesRun on (setting_on on image events frames) n (boot (setting_on on image events frames)) name w
 
 -- from a checkpoint's state, with its frames
 abbrev pub frames_of : State → ℕ
@@ -102,7 +104,8 @@ FromState = Image → Events → State → Outcome → Type 0
 
 -- the outcome of an image and events that go on so from the checkpoint that a name holds
 abbrev pub FromFile : FromState → RunMode → ℕ → Option FileMap → List ℕ → Image → Events → Outcome → Type 0
-FromFile goes on n files name image events w = (file : List ℕ) × Holds files name file × OnState (goes image events) on n image (checkpoint_in file) w
+FromFile goes on n files name image events w =
+    (file : List ℕ) × Holds files name file × OnState (goes image events) on n image (checkpoint_in file) w
 
 -- what is so of the runs from boot of an image and a script that files hold, where there are frames enough
 abbrev pub FromBoot : (Setting → model.State → Type 0) → RunMode → ℕ → Option FileMap → List ℕ → List ℕ → Type 0
@@ -113,5 +116,6 @@ FromBoot holds on frames files image script =
 -- and of those that go on from a checkpoint which fits
 abbrev pub FromHeld : (Setting → model.State → Type 0) → RunMode → ℕ → Option FileMap → List ℕ → List ℕ → List ℕ → Type 0
 FromHeld holds on n files image script file =
-    (program : Image) × (events : Events) × (s : State) × HasImage files image program × HasScript files script events × HasState files file s
+    (program : Image) × (events : Events) × (s : State) × HasImage files image program × HasScript files script events
+    × HasState files file s
     × (fits_of s program (is_wedge on) n ≡ Ok tt) × holds (setting_on on program events (frames_of s)) (rested_from s)

@@ -20,8 +20,10 @@ HasNoState files name at = (file : List ℕ) × Holds files name file × (checkp
 -- why there is nothing to go on from: no run, a file that is no checkpoint, or a state that doesn't fit
 pub data NoResumption (files : Option FileMap) (image script name : List ℕ) (wedge : Bool) (n : ℕ) (line : List ℕ) : Type 0 where
   NothingToRun : NoRun files image script line → NoResumption files image script name wedge n line
-  NoState : (program : Image) (events : Events) (at : ℕ) → HasImage files image program → HasScript files script events → HasNoState files name at
+  NoState : (program : Image) (events : Events) (at : ℕ) → HasImage files image program → HasScript files script events
+      → HasNoState files name at
       → line ≡ place_line (checkpoint_number cause.Form) at → NoResumption files image script name wedge n line
-  Unfit : (program : Image) (events : Events) (state : State) (at : ℕ) (why : CheckpointCause) → HasImage files image program → HasScript files script events
+  Unfit : (program : Image) (events : Events) (state : State) (at : ℕ) (why : CheckpointCause) → HasImage files image program
+      → HasScript files script events
       → HasState files name state → fits_of state program wedge n ≡ Err (at, why) → line ≡ place_line (checkpoint_number why) at
       → NoResumption files image script name wedge n line

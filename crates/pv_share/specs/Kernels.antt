@@ -21,15 +21,18 @@ HasKernels files names kernels = AllZip (HasKernel files) names kernels
 -- Each name that is reached is held: a kernel's are reached where those before it hold kernels.
 abbrev pub FindsKernels : Option FileMap → List KernelNames → Type 0
 FindsKernels files [] = Unit {0}
-FindsKernels files (names ∷ more) = FindsRun files names.image names.script × ((kernel : Kernel) → HasKernel files names kernel → FindsKernels files more)
+FindsKernels files (names ∷ more) =
+    FindsRun files names.image names.script × ((kernel : Kernel) → HasKernel files names kernel → FindsKernels files more)
 
 -- the line of the first kernel that there is not
 abbrev pub NoKernel : Option FileMap → List KernelNames → List ℕ → Type 0
 NoKernel files [] line = ⊥
-NoKernel files (names ∷ more) line = NoRun files names.image names.script line ⊎ ((kernel : Kernel) × HasKernel files names kernel × NoKernel files more line)
+NoKernel files (names ∷ more) line =
+    NoRun files names.image names.script line ⊎ ((kernel : Kernel) × HasKernel files names kernel × NoKernel files more line)
 
 -- with their schedule, which is loaded before them and read after them
-pub record IsShared (files : Option FileMap) (schedule : List ℕ) (names : List KernelNames) (kernels : List Kernel) (slices : List Slice) : Type 0 where
+pub record IsShared (files : Option FileMap) (schedule : List ℕ) (names : List KernelNames) (kernels : List Kernel)
+    (slices : List Slice) : Type 0 where
   pub text : List ℕ
   pub holds : Holds files schedule text
   pub has : HasKernels files names kernels

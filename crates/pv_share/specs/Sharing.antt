@@ -48,7 +48,8 @@ pub record SharesTurns (frames : ℕ) (kernels : List Kernel) (slices : List Sli
 -- over what the schedule says: the first kernel for which there aren't frames enough is printed, or they run
 pub data SharesOn (frames : ℕ) (kernels : List Kernel) (slices : List Slice) (w : Outcome) : Type 0 where
   Ran : AllFit frames kernels → SharesTurns frames kernels slices w → SharesOn frames kernels slices w
-  Small : (small : TooSmall) → FirstTooSmall frames kernels small → w ≡ refused (too_small_line small.need small.have) → SharesOn frames kernels slices w
+  Small : (small : TooSmall) → FirstTooSmall frames kernels small → w ≡ refused (too_small_line small.need small.have)
+      → SharesOn frames kernels slices w
 
 abbrev pub BySchedule : ℕ → List Kernel → Result (List Slice) (ℕ × ScheduleCause) → Outcome → Type 0
 BySchedule frames kernels (Ok slices) w = SharesOn frames kernels slices w
@@ -57,8 +58,10 @@ BySchedule frames kernels (Err (line, cause)) w = w ≡ refused (schedule_line l
 -- The schedule's file is loaded first. Then come image by image and script, each read before the next is loaded. The schedule
 -- is read last.
 pub data Shares (files : Option FileMap) (schedule : List ℕ) (frames : ℕ) (names : List KernelNames) (w : Outcome) : Type 0 where
-  NoneShared : (text line : List ℕ) → Holds files schedule text → NoKernel files names line → w ≡ refused line → Shares files schedule frames names w
-  AllRead : (text : List ℕ) (kernels : List Kernel) → Holds files schedule text → HasKernels files names kernels → BySchedule frames kernels (schedule_of (length kernels) text) w
+  NoneShared : (text line : List ℕ) → Holds files schedule text → NoKernel files names line → w ≡ refused line
+      → Shares files schedule frames names w
+  AllRead : (text : List ℕ) (kernels : List Kernel) → Holds files schedule text → HasKernels files names kernels
+      → BySchedule frames kernels (schedule_of (length kernels) text) w
       → Shares files schedule frames names w
 
 -- The text of the turns of the first slices, and of the first steps of one more: where the output fails in a turn, it fails

@@ -22,5 +22,6 @@ FindsShared files schedule names = IsHeld files schedule × FindsKernels files n
 -- why nothing is shared: the first kernel that there is not, or then the schedule
 pub data NoShared (files : Option FileMap) (schedule : List ℕ) (names : List KernelNames) (line : List ℕ) : Type 0 where
   NoneRead : (text : List ℕ) → Holds files schedule text → NoKernel files names line → NoShared files schedule names line
-  NoSchedule : (text : List ℕ) (kernels : List Kernel) (at : ℕ) (cause : ScheduleCause) → Holds files schedule text → HasKernels files names kernels
+  NoSchedule : (text : List ℕ) (kernels : List Kernel) (at : ℕ) (cause : ScheduleCause) → Holds files schedule text
+      → HasKernels files names kernels
       → schedule_of (length kernels) text ≡ Err (at, cause) → line ≡ schedule_line at cause → NoShared files schedule names line

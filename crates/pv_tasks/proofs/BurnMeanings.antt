@@ -18,14 +18,17 @@ use Rattle.pv_tasks.proofs.SameFiles.{same_file}
 
 -- the outcome of the text of a file
 
-pub no_source : (files : Option FileMap) (name object line : List ℕ) → (at : ℕ) × (cause : SourceCause) × HasNoSource files name (at, cause) × (line ≡ source_line at cause) → Burns files name object (refused line)
+pub no_source : (files : Option FileMap) (name object line : List ℕ) → (at : ℕ) × (cause : SourceCause) × HasNoSource files name (at, cause)
+    × (line ≡ source_line at cause) → Burns files name object (refused line)
 no_source files name object line h = record { text = h.2.0; holds = h.2.1; said = Err (h.0, h.1); says = h.2.2; comes = ap refused h.3 }
 
-pub not_burnt : (files : Option FileMap) (name object line : List ℕ) (items : List SourceItem) (fault : Fault) → HasSource files name items → burnt items ≡ Err fault → line ≡ burn_line fault → Burns files name object (refused line)
+pub not_burnt : (files : Option FileMap) (name object line : List ℕ) (items : List SourceItem) (fault : Fault) → HasSource files name items
+    → burnt items ≡ Err fault → line ≡ burn_line fault → Burns files name object (refused line)
 not_burnt files name object line items fault has fails is =
     record { text = has.0; holds = has.1; said = Ok items; says = has.2; comes = ap refused is ∙ sym (ap (written object) fails) }
 
-pub is_burnt : (files : Option FileMap) (name object bytes line : List ℕ) (o : ObjectParts) → HasBurnt files name o → bytes ≡ object_bytes o → line ≡ object_made_line o
+pub is_burnt : (files : Option FileMap) (name object bytes line : List ℕ) (o : ObjectParts) → HasBurnt files name o → bytes ≡ object_bytes o
+    → line ≡ object_made_line o
     → Burns files name object (stored_as object bytes line)
 is_burnt files name object bytes line o has bytes_are line_is =
     record {
@@ -33,7 +36,8 @@ is_burnt files name object bytes line o has bytes_are line_is =
       holds = has.holds;
       said = Ok has.items;
       says = has.says;
-      comes = ap (λ (b : List ℕ). stored_as object b line) bytes_are ∙ (ap (stored_as object (object_bytes o)) line_is ∙ sym (ap (written object) has.burnt_is));
+      comes = ap (λ (b : List ℕ). stored_as object b line) bytes_are
+          ∙ (ap (stored_as object (object_bytes o)) line_is ∙ sym (ap (written object) has.burnt_is));
     }
 
 read_once : (text : List ℕ) (i j : List SourceItem) → SourceAs text i → SourceAs text j → i ≡ j
@@ -63,7 +67,8 @@ said_once text (Err f) (Ok j) h k = absurd (read_or_not text j f k h)
 said_once text (Err f) (Err g) h k = ap (λ (x : ℕ × SourceCause). Err x) (fault_once text f g h k)
 
 -- `burn` has one outcome
-pub burns_once : (told : FileMap) (source object : List ℕ) (w v : Outcome) → Burns (Some told) source object w → Burns (Some told) source object v → v ≡ w
+pub burns_once : (told : FileMap) (source object : List ℕ) (w v : Outcome) → Burns (Some told) source object w
+    → Burns (Some told) source object v → v ≡ w
 burns_once told source object w v h k =
     let same = same_file told source k.text h.text k.holds h.holds in
     let once = said_once h.text k.said h.said (subst (λ (t : List ℕ). SaysSource t k.said) same k.says) h.says in

@@ -41,21 +41,27 @@ some_same : (a b : List ℕ) → Some a ≡ Some b → a ≡ b
 some_same a b is = cc
 
 -- of a sink that had taken nothing
-pub second_ran : (image : Image) (events : Events) (old text : List ℕ) (before now : ℕ) (c c2 : Counts) (memory : List ℕ) (ended : Ended) → events ≡ [] → old ≡ []
+pub second_ran : (image : Image) (events : Events) (old text : List ℕ) (before now : ℕ) (c c2 : Counts) (memory : List ℕ) (ended : Ended)
+    → events ≡ [] → old ≡ []
     → WedgeAnswers image events 4096 100000 512 (Some old) (Some text) before now c c2 memory (Ok ended)
-    → (count : ℕ) × (end : End) × (run : Promise (second_setting image) 100000 512 text count end c c2 memory) × HasOwnFills (second_setting image) 100000 512 run.sets run.last end run.run.ends ended.fills
+    → (count : ℕ) × (end : End) × (run : Promise (second_setting image) 100000 512 text count end c c2 memory)
+    × HasOwnFills (second_setting image) 100000 512 run.sets run.last end run.run.ends ended.fills
 second_ran image events old text before now c c2 memory ended none first answers =
-    let h = subst (λ (e : Events). WedgeAnswers image e 4096 100000 512 (Some old) (Some text) before now c c2 memory (Ok ended)) none answers in
+    let h = subst (λ (e : Events). WedgeAnswers image e 4096 100000 512 (Some old) (Some text) before now c c2 memory (Ok ended)) none
+    answers in
     let is : h.0 ≡ text = sym (some_same text (old ++ h.0) h.4 ∙ ap (λ (l : List ℕ). l ++ h.0) first) in
     let m = second_setting image in
-    let moved = subst (λ (t : List ℕ). (run : Promise m 100000 512 t ended.steps ended.end c c2 memory) × HasOwnFills m 100000 512 run.sets run.last ended.end run.run.ends ended.fills) is (h.1, h.3) in
+    let moved = subst (λ (t : List ℕ). (run : Promise m 100000 512 t ended.steps ended.end c c2 memory) × HasOwnFills m 100000 512 run.sets
+    run.last ended.end run.run.ends ended.fills) is (h.1, h.3) in
     (ended.steps, ended.end, moved.0, moved.1)
 
 -- ---- what is printed
 
 -- work that has ended with a refusal, or without memory
-pub work_ends : (number : ℕ) (told : List ℕ → Type 0) (h : Halt) (old new : Option (List ℕ)) (before now : ℕ) (c c2 : Counts) (memory : List ℕ) (st : Status) → RefusesAs told h
-    → ((line : List ℕ) → told line → Works number (refused line) × (c2 ≡ c)) → Ends h old new before now st → WorkedAs number (around_of old new before now c c2) memory st
+pub work_ends : (number : ℕ) (told : List ℕ → Type 0) (h : Halt) (old new : Option (List ℕ)) (before now : ℕ) (c c2 : Counts)
+    (memory : List ℕ) (st : Status) → RefusesAs told h
+    → ((line : List ℕ) → told line → Works number (refused line) × (c2 ≡ c)) → Ends h old new before now st
+    → WorkedAs number (around_of old new before now c c2) memory st
 work_ends number told (halt.Refused line) old new before now c c2 memory st is to ends =
     let both = to line is in
     inl (refused line, both.0, ends, λ end. both.1)
@@ -65,12 +71,15 @@ work_ends number told halt.Memory old new before now c c2 memory st is to ends =
 pub refuses_kernel : (number : ℕ) (line : List ℕ) → Builds (kernel_text number) (Err line) → Works number (refused line)
 refuses_kernel number line h = record { made = Err line; builds = h; comes = refl }
 
-pub too_large : (number : ℕ) (image : Image) (c c2 : Counts) (line : List ℕ) → Builds (kernel_text number) (Ok image) → IsTooLarge image c c2 line → Works number (refused line) × (c2 ≡ c)
+pub too_large : (number : ℕ) (image : Image) (c c2 : Counts) (line : List ℕ) → Builds (kernel_text number) (Ok image)
+    → IsTooLarge image c c2 line → Works number (refused line) × (c2 ≡ c)
 too_large number image c c2 line h large = (record { made = Ok image; builds = h; comes = Small large.0 (ap refused large.1) }, large.2)
 
 -- both runs were reported
-pub work_tells : (number : ℕ) (image : Image) (first second : List ℕ) (fills : ℕ) (old new : Option (List ℕ)) (before now : ℕ) (c c2 : Counts) (memory : List ℕ) (st : Status)
-    → Builds (kernel_text number) (Ok image) → HasTexts image first second fills c c2 memory → TellsBoth (told_line number image second fills) first second old new before now st
+pub work_tells : (number : ℕ) (image : Image) (first second : List ℕ) (fills : ℕ) (old new : Option (List ℕ)) (before now : ℕ)
+    (c c2 : Counts) (memory : List ℕ) (st : Status)
+    → Builds (kernel_text number) (Ok image) → HasTexts image first second fills c c2 memory
+    → TellsBoth (told_line number image second fills) first second old new before now st
     → WorkedAs number (around_of old new before now c c2) memory st
 work_tells number image first second fills old new before now c c2 memory st h t (inl said) =
     let p = t.promise in
@@ -89,8 +98,14 @@ work_tells number image first second fills old new before now c c2 memory st h t
       filled = t.filled;
       comes = refl;
     } in
-    let says = subst (λ (f : List ℕ). Says (told_line number image second fills ++ compared_line f second) status.Done old new before now st) t.first_is said in
-    inl (compared run stopped text, record { made = Ok image; builds = h; comes = Ran t.fits twice }, says, λ end. (p.counts, p.memory_is, p.kept refl))
+    let says = subst (λ (f : List ℕ). Says (told_line number image second fills ++ compared_line f second) status.Done old new before now
+    st) t.first_is said in
+    inl (
+      compared run stopped text,
+      record { made = Ok image; builds = h; comes = Ran t.fits twice },
+      says,
+      λ end. (p.counts, p.memory_is, p.kept refl),
+    )
 work_tells number image first second fills old new before now c c2 memory st h t (inr none) = inr none
 
 -- ---- what the outcomes are
@@ -118,7 +133,8 @@ works_told number w h = on_told number h.made w h.comes
 pub works_none : (number : ℕ) (w : Outcome) → Works number w → w.stored ≡ None
 works_none number w h = ap (λ (v : Outcome). v.stored) (works_told number w h)
 
-on_refusal : (number : ℕ) (made : Result Image (List ℕ)) (w : Outcome) → WorksOn number made w → w.status ≡ status.Refused → w ≡ refused w.text
+on_refusal : (number : ℕ) (made : Result Image (List ℕ)) (w : Outcome) → WorksOn number made w → w.status ≡ status.Refused
+    → w ≡ refused w.text
 on_refusal number (Ok image) w (Ran fits run) is = absurd (not_refused (sym (ap (λ (v : Outcome). v.status) run.comes) ∙ is))
 on_refusal number (Ok image) w (Small lt one) is = subst (λ (v : Outcome). v ≡ refused v.text) (sym one) refl
 on_refusal number (Err line) w one is = subst (λ (v : Outcome). v ≡ refused v.text) (sym one) refl
@@ -126,7 +142,8 @@ on_refusal number (Err line) w one is = subst (λ (v : Outcome). v ≡ refused v
 pub works_refusal : (number : ℕ) (w : Outcome) → Works number w → w.status ≡ status.Refused → w ≡ refused w.text
 works_refusal number w h is = on_refusal number h.made w h.comes is
 
-on_once : (number : ℕ) (made : Result Image (List ℕ)) (w v : Outcome) → w.status ≡ status.Refused → WorksOn number made w → WorksOn number made v → v ≡ w
+on_once : (number : ℕ) (made : Result Image (List ℕ)) (w v : Outcome) → w.status ≡ status.Refused → WorksOn number made w
+    → WorksOn number made v → v ≡ w
 on_once number (Ok image) w v is (Small lt one) (Small le two) = two ∙ sym one
 on_once number (Ok image) w v is (Small lt one) (Ran fits run) = absurd (omega (arith, lt, fits))
 on_once number (Ok image) w v is (Ran fits run) other = absurd (not_refused (sym (ap (λ (u : Outcome). u.status) run.comes) ∙ is))
@@ -141,21 +158,26 @@ works_once number w v is h k =
 -- ---- what the status means
 
 pub work_means : (number : ℕ) (o : Outside) (st : Status) → o.after.files ≡ o.before.files
-    → WorkedAs number (around_of o.before.taken o.after.taken o.before.puts o.after.puts o.before.completed o.after.completed) o.after.memory st → Means (work_task number) o st
+    → WorkedAs number (around_of o.before.taken o.after.taken o.before.puts o.after.puts o.before.completed o.after.completed)
+    o.after.memory st → Means (work_task number) o st
 work_means number o st same (inl (w, h, said, does)) =
     says_told (work_task number) o w st (works_end number w h) (works_told number w h) h same does said
 work_means number o st same (inr (is, none, count)) = subst (λ (x : Status). Means (work_task number) o x) (sym is) (same, inr none)
 
-said_no_read : (w : Outcome) (old new : Option (List ℕ)) (before now : ℕ) (st : Status) → IsEnd w.status → Says w.text w.status old new before now st → st ≢ status.ReadFault
+said_no_read : (w : Outcome) (old new : Option (List ℕ)) (before now : ℕ) (st : Status) → IsEnd w.status
+    → Says w.text w.status old new before now st → st ≢ status.ReadFault
 said_no_read w old new before now st end (Whole is appends kept) = λ read. subst (λ (s : Status). IsEnd s) (sym is ∙ read) end
 said_no_read w old new before now st end (Cut is front rose) = λ read. cc (is, read)
 
 -- no load fails
-pub work_no_read : (number : ℕ) (old new : Option (List ℕ)) (before now : ℕ) (c c2 : Counts) (memory : List ℕ) (st : Status) → WorkedAs number (around_of old new before now c c2) memory st → st ≢ status.ReadFault
-work_no_read number old new before now c c2 memory st (inl (w, h, said, does)) = said_no_read w old new before now st (works_end number w h) said
+pub work_no_read : (number : ℕ) (old new : Option (List ℕ)) (before now : ℕ) (c c2 : Counts) (memory : List ℕ) (st : Status)
+    → WorkedAs number (around_of old new before now c c2) memory st → st ≢ status.ReadFault
+work_no_read number old new before now c c2 memory st (inl (w, h, said, does)) =
+    said_no_read w old new before now st (works_end number w h) said
 work_no_read number old new before now c c2 memory st (inr (is, none, count)) = λ read. cc (is, read)
 
 -- a put that failed ends the work as a write fault
-pub work_puts : (number : ℕ) (old new : Option (List ℕ)) (before now : ℕ) (c c2 : Counts) (memory : List ℕ) (st : Status) → WorkedAs number (around_of old new before now c c2) memory st → PutsEnd before now st
+pub work_puts : (number : ℕ) (old new : Option (List ℕ)) (before now : ℕ) (c c2 : Counts) (memory : List ℕ) (st : Status)
+    → WorkedAs number (around_of old new before now c c2) memory st → PutsEnd before now st
 work_puts number old new before now c c2 memory st (inl (w, h, said, does)) = puts_said w.text w.status old new before now st said
 work_puts number old new before now c c2 memory st (inr (is, none, count)) = λ write. count

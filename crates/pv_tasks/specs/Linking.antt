@@ -20,7 +20,8 @@ linked name (Err fault) = refused (link_line fault.object fault.cause)
 -- the outcome of the objects' files
 pub data Links (files : Option FileMap) (image : List ℕ) (objects : List (List ℕ)) (w : Outcome) : Type 0 where
   AllRead : (os : List ObjectParts) → HasObjects files objects os → w ≡ linked image (linked_image os) → Links files image objects w
-  NoObject : (i : ℕ) (fault : Fault) → FirstFault files objects i fault → w ≡ refused (object_place_line (form_number fault.cause) i fault.at) → Links files image objects w
+  NoObject : (i : ℕ) (fault : Fault) → FirstFault files objects i fault
+      → w ≡ refused (object_place_line (form_number fault.cause) i fault.at) → Links files image objects w
 
 -- the objects that the names hold are linked to this image, which is read back
 pub record HasLinked (files : Option FileMap) (objects : List (List ℕ)) (p : ImageParts) : Type 0 where

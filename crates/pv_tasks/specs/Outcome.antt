@@ -40,7 +40,8 @@ abbrev pub HostDid : HostPart → Counts → Counts → List ℕ → Type 0
 HostDid Nothing completed completed2 memory2 = completed2 ≡ completed
 HostDid (KeptRun first r stopped) completed completed2 memory2 =
     CountsOn r.setting r.reports completed completed2 × HasMemory r.setting r.last r.end memory2 × Kept r.setting first (r.sets ++ stopped)
-HostDid (EndedRun r) completed completed2 memory2 = CountsOn r.setting r.reports completed completed2 × HasMemory r.setting r.last r.end memory2
+HostDid (EndedRun r) completed completed2 memory2 =
+    CountsOn r.setting r.reports completed completed2 × HasMemory r.setting r.last r.end memory2
 HostDid (SomeSteps setting reports) completed completed2 memory2 = CountsOn setting reports completed completed2
 HostDid (Turns counts_behind) completed completed2 memory2 = completed2 ≡ counts_behind completed
 

@@ -37,7 +37,8 @@ pub record RunsPatched (frames n : ℕ) (image : Image) (events : Events) (w : O
   pub last : State
   pub end : End
   pub run : Run (wedge image events frames) n (boot (wedge image events frames)) sets reports last end
-  pub comes : w ≡ ended_on_host (record { setting = wedge image events frames; sets = sets; reports = reports; last = last; end = end }) (stopping (wedge image events frames) n last end run.ends)
+  pub comes : w ≡ ended_on_host (record { setting = wedge image events frames; sets = sets; reports = reports; last = last; end = end })
+      (stopping (wedge image events frames) n last end run.ends)
 
 -- the outcome of a run, or a refusal where the image needs more frames than there are
 pub data RunsOn (ran : Outcome → Type 0) (image : Image) (frames : ℕ) (w : Outcome) : Type 0 where
@@ -58,6 +59,8 @@ Runs runs frames files image script w = Reads (λ program events. RunsOn (runs p
 
 -- what `run` asks for on a machine
 abbrev pub run_task : RunMode → List ℕ → List ℕ → ℕ → ℕ → Task
-run_task mode.Bare image script frames n = plain (λ files w. Runs (RunsBare frames n) frames files image script w) (λ files. FindsRun files image script)
+run_task mode.Bare image script frames n =
+    plain (λ files w. Runs (RunsBare frames n) frames files image script w) (λ files. FindsRun files image script)
 run_task mode.Wedge image script frames n =
-    record (plain (λ files w. Runs (RunsPatched frames n) frames files image script w) (λ files. FindsRun files image script)) { on_host = true }
+    record (plain (λ files w. Runs (RunsPatched frames n) frames files image script w) (λ files. FindsRun files image script))
+    { on_host = true }

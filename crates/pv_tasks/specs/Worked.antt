@@ -29,5 +29,6 @@ IsTooLarge image before after line = (4096 < need image) × (line ≡ too_small_
 -- The lines were put, or that of a refusal, and the host has done what is its part, unless no memory was found.
 abbrev pub WorkedAs : ℕ → Around → List ℕ → Status → Type 0
 WorkedAs number a memory result =
-    ((w : Outcome) × Works number w × Says w.text w.status a.taken a.taken_after a.faults a.faults_after result × (result ≡ w.status → HostDid w.hosted a.counts a.counts_after memory))
+    ((w : Outcome) × Works number w × Says w.text w.status a.taken a.taken_after a.faults a.faults_after result
+    × (result ≡ w.status → HostDid w.hosted a.counts a.counts_after memory))
     ⊎ ((result ≡ status.Memory) × (a.taken_after ≡ a.taken) × (a.faults_after ≡ a.faults))

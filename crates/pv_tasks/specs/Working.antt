@@ -38,7 +38,9 @@ pub record RunsTwice (number : ℕ) (image : Image) (w : Outcome) : Type 0 where
   pub second_is : second ≡ text_of (trace_of reports) last.step end
   pub fills : ℕ
   pub filled : HasOwnFills (second_setting image) 100000 512 sets last end run.ends fills
-  pub comes : w ≡ compared (record { setting = second_setting image; sets = sets; reports = reports; last = last; end = end }) (stopping (second_setting image) 100000 last end run.ends) (told_line number image second fills ++ compared_line (first_text image) second)
+  pub comes : w ≡ compared (record { setting = second_setting image; sets = sets; reports = reports; last = last; end = end })
+      (stopping (second_setting image) 100000 last end run.ends)
+      (told_line number image second fills ++ compared_line (first_text image) second)
 
 -- over what the kernel is built into
 abbrev pub WorksOn : ℕ → Result Image (List ℕ) → Outcome → Type 0
@@ -53,4 +55,5 @@ pub record Works (number : ℕ) (w : Outcome) : Type 0 where
 
 -- what `work` asks for; it may find no memory for what its second run prints, or after it
 abbrev pub work_task : ℕ → Task
-work_task number = record (plain (λ files w. Works number w) (λ files. Unit {0})) { half_done = λ o. o.after.taken ≡ o.before.taken; on_host = true; reads = false }
+work_task number = record (plain (λ files w. Works number w) (λ files. Unit {0}))
+    { half_done = λ o. o.after.taken ≡ o.before.taken; on_host = true; reads = false }

@@ -23,7 +23,8 @@ use Rattle.pv_tool.specs.Asked.{task_of, reads_files}
 use Rattle.pv_tasks.proofs.WorkMeanings.{builds_once, works_none, works_once}
 
 -- both lines of two runs were printed
-is_comparison : RunsAgree → (number : ℕ) (program : Image) (o : Outside) (st : Status) (w : Outcome) → RunsTwice number program w → ComesTo w o st → IsComparison number program o
+is_comparison : RunsAgree → (number : ℕ) (program : Image) (o : Outside) (st : Status) (w : Outcome) → RunsTwice number program w
+    → ComesTo w o st → IsComparison number program o
 is_comparison agree number program o st w run came =
     let here = subst (λ (v : Outcome). ComesTo v o st) run.comes came in
     record {
@@ -53,7 +54,8 @@ not_done : status.Refused ≡ status.Done → ⊥
 not_done is = cc
 
 -- what is done has run an image
-done_on : (number : ℕ) (made : Result Image (List ℕ)) (w : Outcome) → WorksOn number made w → w.status ≡ status.Done → (program : Image) × (made ≡ Ok program) × RunsTwice number program w
+done_on : (number : ℕ) (made : Result Image (List ℕ)) (w : Outcome) → WorksOn number made w → w.status ≡ status.Done → (program : Image)
+    × (made ≡ Ok program) × RunsTwice number program w
 done_on number (Ok image) w (Ran fits run) is = (image, refl, run)
 done_on number (Ok image) w (Small lt one) is = absurd (not_done (sym (ap (λ (v : Outcome). v.status) one) ∙ is))
 done_on number (Err line) w one is = absurd (not_done (sym (ap (λ (v : Outcome). v.status) one) ∙ is))
@@ -67,11 +69,13 @@ of_done agree number o (w, works, came) =
       comparison = is_comparison agree number d.0 o status.Done w d.2 came;
     }
 
-pub has_comparison : RunsAgree → (number : ℕ) (o : Outside) (st : Status) → st ≡ status.Done → Means (task_of (Work number)) o st → HasComparison number o
+pub has_comparison : RunsAgree → (number : ℕ) (o : Outside) (st : Status) → st ≡ status.Done → Means (task_of (Work number)) o st
+    → HasComparison number o
 has_comparison agree number o st done h = of_done agree number o (subst (λ (s : Status). Means (task_of (Work number)) o s) done h)
 
 -- where no put failed and memory was found, the work's outcome was reported
-came_to_work : (number : ℕ) (o : Outside) (st : Status) → (Rose o.before.puts o.after.puts → ⊥) → st ≢ status.Memory → st ≢ status.ReadFault → Means (task_of (Work number)) o st → ComesToOne (Works number) o st
+came_to_work : (number : ℕ) (o : Outside) (st : Status) → (Rose o.before.puts o.after.puts → ⊥) → st ≢ status.Memory → st ≢ status.ReadFault
+    → Means (task_of (Work number)) o st → ComesToOne (Works number) o st
 came_to_work number o status.Done none found read h = h
 came_to_work number o status.Stopped none found read h = h
 came_to_work number o status.Refused none found read h = h
@@ -93,7 +97,8 @@ ran_twice number program w le (Ran fits run) = run
 ran_twice number program w le (Small lt is) = absurd (omega (arith, le, lt))
 
 -- a kernel that is built into an image, for which there are frames, is run twice
-pub work_completes : RunsAgree → (words : List (List ℕ)) (o : Outside) (st : Status) → Meaning words o st → LoadsNone words st → WorkDone words o st
+pub work_completes : RunsAgree → (words : List (List ℕ)) (o : Outside) (st : Status) → Meaning words o st → LoadsNone words st
+    → WorkDone words o st
 work_completes agree words o st means loads number program asks builds le none found =
     let c = came_to_work number o st none found (no_load words number st asks loads) (means (Work number) asks) in
     let made = builds_once (kernel_text number) (Ok program) c.1.made builds c.1.builds in

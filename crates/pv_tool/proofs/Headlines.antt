@@ -22,7 +22,8 @@ use Rattle.pv_tool.proofs.CommandLaws.{came_over}
 use Rattle.pv_tool.proofs.Completes.{run_came}
 
 -- a run of the patched image that was printed
-is_headline : RunsAgree → (frames n : ℕ) (program : Image) (events : Events) (o : Outside) (st : Status) (w : Outcome) → RunsPatched frames n program events w → ComesTo w o st
+is_headline : RunsAgree → (frames n : ℕ) (program : Image) (events : Events) (o : Outside) (st : Status) (w : Outcome)
+    → RunsPatched frames n program events w → ComesTo w o st
     → IsHeadline program events frames n o st
 is_headline agree frames n program events o st w run came =
     let here = subst (λ (v : Outcome). ComesTo v o st) run.comes came in
@@ -49,7 +50,8 @@ is_headline agree frames n program events o st w run came =
 
 -- ---- of the words' files
 
-printed_headline : RunsAgree → (image script : List ℕ) (frames n : ℕ) (o : Outside) (st : Status) → HasEnded st → ComesToOne ((task_of (RunWedge image script frames n)).gives o.before.files) o st
+printed_headline : RunsAgree → (image script : List ℕ) (frames n : ℕ) (o : Outside) (st : Status) → HasEnded st
+    → ComesToOne ((task_of (RunWedge image script frames n)).gives o.before.files) o st
     → HasHeadline image script frames n o st
 printed_headline agree image script frames n o st ended h =
     let w = h.0 in
@@ -63,7 +65,8 @@ printed_headline agree image script frames n o st ended h =
       headline = is_headline agree frames n b.program b.events o st w run.1 h.2;
     }
 
-pub has_headline : RunsAgree → (image script : List ℕ) (frames n : ℕ) (o : Outside) (st : Status) → HasEnded st → Means (task_of (RunWedge image script frames n)) o st
+pub has_headline : RunsAgree → (image script : List ℕ) (frames n : ℕ) (o : Outside) (st : Status) → HasEnded st
+    → Means (task_of (RunWedge image script frames n)) o st
     → HasHeadline image script frames n o st
 has_headline agree image script frames n o status.Done ended h = printed_headline agree image script frames n o status.Done ended h
 has_headline agree image script frames n o status.Stopped ended h = printed_headline agree image script frames n o status.Stopped ended h
@@ -77,5 +80,6 @@ has_headline agree image script frames n o status.Memory ended h = absurd ended
 pub wedge_completes : RunsAgree → (words : List (List ℕ)) (o : Outside) (st : Status) → Completes words o st → RunsOnHost words o st
 wedge_completes agree words o st complete image script frames n told program events free has le =
     let command = RunWedge image script frames n in
-    let ran = run_came command (RunsPatched frames n) frames image script o told program events st (λ w g. g) has.image_held has.script_held le (came_over words command told o st complete free) in
+    let ran = run_came command (RunsPatched frames n) frames image script o told program events st (λ w g. g) has.image_held has.script_held
+    le (came_over words command told o st complete free) in
     is_headline agree frames n program events o st ran.0 ran.1 ran.2

@@ -36,7 +36,8 @@ use Rattle.pv_tasks.proofs.Works.{WithFrames, reads_both, ended_ran}
 use Rattle.pv_save.proofs.RestDone.{stopped_so}
 
 -- the rules of a machine over the same image, events and frames
-by_rules : (on : RunMode) (program : Image) (events : Events) (frames : ℕ) → in_mode (bare program events frames) (rules_of on program events frames) ≡ setting_on on program events frames
+by_rules : (on : RunMode) (program : Image) (events : Events) (frames : ℕ)
+    → in_mode (bare program events frames) (rules_of on program events frames) ≡ setting_on on program events frames
 by_rules mode.Bare program events frames = refl
 by_rules mode.Wedge program events frames = refl
 
@@ -50,7 +51,8 @@ record LegOf (program : Image) (events : Events) (frames : ℕ) (move : Move) (o
   size : length new.ram ≡ 4096 * frames
 
 -- two states whose files are one, each of which is read back
-same_state : (a b : State) → checkpoint_bytes a ≡ checkpoint_bytes b → checkpoint_in (checkpoint_bytes a) ≡ Ok a → checkpoint_in (checkpoint_bytes b) ≡ Ok b → b ≡ a
+same_state : (a b : State) → checkpoint_bytes a ≡ checkpoint_bytes b → checkpoint_in (checkpoint_bytes a) ≡ Ok a
+    → checkpoint_in (checkpoint_bytes b) ≡ Ok b → b ≡ a
 same_state a b same read_a read_b =
     let e : checkpoint_in (checkpoint_bytes a) ≡ checkpoint_in (checkpoint_bytes b) = ap checkpoint_in same in
     cc
@@ -68,7 +70,8 @@ leg_of : (program : Image) (events : Events) (frames : ℕ) (old : model.State) 
     → SavesRun move.on (setting_on move.on program events frames) move.n old move.new move.work → Leaves move s
     → LegOf program events frames move old s
 leg_of program events frames old move s (Rested h) leaves =
-    let same : checkpoint_bytes (kept_of h.last) ≡ checkpoint_bytes s = ap bytes_in (sym (ap (λ (v : Outcome). v.stored) h.comes) ∙ leaves.stored) in
+    let same : checkpoint_bytes (kept_of h.last) ≡ checkpoint_bytes s =
+    ap bytes_in (sym (ap (λ (v : Outcome). v.stored) h.comes) ∙ leaves.stored) in
     let is_on = sym (by_rules move.on program events frames) in
     let steps = subst (λ (x : Setting). Steps x old h.sets h.reports h.last) is_on h.run.steps in
     let lines = ap (λ (v : Outcome). v.first) h.comes in
@@ -89,20 +92,23 @@ done_ended st is = subst HasEnded (sym is) tt
 refused_not : (line : List ℕ) (w : Outcome) → w ≡ refused line → HasEnded w.status → ⊥
 refused_not line w is ended = subst (λ (v : Outcome). HasEnded v.status) is ended
 
-where_ended : (goes : State → Outcome → Type 0) (s : State) (r : Result Unit (ℕ × CheckpointCause)) (w : Outcome) → WhereFits goes s r w → HasEnded w.status → goes s w
+where_ended : (goes : State → Outcome → Type 0) (s : State) (r : Result Unit (ℕ × CheckpointCause)) (w : Outcome) → WhereFits goes s r w
+    → HasEnded w.status → goes s w
 where_ended goes s (Ok fit) w h ended = h
 where_ended goes s (Err (at, cause)) w h ended = absurd (refused_not _ w h ended)
 
 -- work that has ended went on from the state that the name holds
 from_ended : (goes : Image → Events → State → Outcome → Type 0) (program : Image) (events : Events) (s : State) (move : Move)
-    → HasState (Some move.told) move.file s → FromFile goes move.on move.n (Some move.told) move.file program events move.work → HasEnded move.work.status → goes program events s move.work
+    → HasState (Some move.told) move.file s → FromFile goes move.on move.n (Some move.told) move.file program events move.work
+    → HasEnded move.work.status → goes program events s move.work
 from_ended goes program events s move has h ended =
     let same = same_file move.told move.file h.0 has.0 h.1 has.1 in
     let of_file = subst (λ (f : List ℕ). OnState (goes program events) move.on move.n program (checkpoint_in f) move.work) same h.2 in
     let of_state = subst (λ (r : Result State ℕ). OnState (goes program events) move.on move.n program r move.work) has.2 of_file in
     where_ended (goes program events) s (fits_of s program (is_wedge move.on) move.n) move.work of_state ended
 
-boot_on : (on : RunMode) (program : Image) (events : Events) (frames : ℕ) → boot (setting_on on program events frames) ≡ boot (bare program events frames)
+boot_on : (on : RunMode) (program : Image) (events : Events) (frames : ℕ) → boot (setting_on on program events frames) ≡ boot
+    (bare program events frames)
 boot_on mode.Bare program events frames = refl
 boot_on mode.Wedge program events frames = refl
 
@@ -110,7 +116,8 @@ first_leg : (program : Image) (events : Events) (frames : ℕ) (move : Move) (s 
     → LegOf program events frames move (boot (bare program events frames)) s
 first_leg program events frames move s h =
     let ended = done_ended move.work.status h.leaves.done in
-    let both = reads_both (WithFrames (SavesBoot move.on frames move.n move.new) frames) move.told move.image move.script program events move.work h.over.image_held h.over.script_held h.gives in
+    let both = reads_both (WithFrames (SavesBoot move.on frames move.n move.new) frames) move.told move.image move.script program events
+    move.work h.over.image_held h.over.script_held h.gives in
     let ran = ended_ran (SavesBoot move.on frames move.n move.new) frames program events move.work ended both in
     subst (λ (b : model.State). LegOf program events frames move b s) (boot_on move.on program events frames)
     (leg_of program events frames (boot (setting_on move.on program events frames)) move s ran.1 h.leaves)
@@ -121,15 +128,19 @@ frames_are frames mid s is size =
     let long : length s.ram ≡ 4096 * frames = ap (λ (x : State). length x.ram) is ∙ size in
     omega (arith, long)
 
-next_leg : (program : Image) (events : Events) (frames : ℕ) (mid : model.State) (s : State) (move : Move) (t : State) → s ≡ kept_of mid → length mid.ram ≡ 4096 * frames → IsNext program events s move t
+next_leg : (program : Image) (events : Events) (frames : ℕ) (mid : model.State) (s : State) (move : Move) (t : State) → s ≡ kept_of mid
+    → length mid.ram ≡ 4096 * frames → IsNext program events s move t
     → LegOf program events frames move (rested mid) t
 next_leg program events frames mid s move t is size h =
     let ended = done_ended move.work.status h.leaves.done in
-    let from = reads_both (FromFile (SavesOn move.on move.n move.new) move.on move.n (Some move.told) move.file) move.told move.image move.script program events move.work h.over.image_held h.over.script_held h.gives in
+    let from = reads_both (FromFile (SavesOn move.on move.n move.new) move.on move.n (Some move.told) move.file) move.told move.image
+    move.script program events move.work h.over.image_held h.over.script_held h.gives in
     let goes = from_ended (SavesOn move.on move.n move.new) program events s move h.state_held from ended in
-    let framed = subst (λ (f : ℕ). SavesRun move.on (setting_on move.on program events f) move.n (rested_from s) move.new move.work) (frames_are frames mid s is size) goes in
+    let framed = subst (λ (f : ℕ). SavesRun move.on (setting_on move.on program events f) move.n (rested_from s) move.new move.work)
+    (frames_are frames mid s is size) goes in
     leg_of program events frames (rested mid) move t
-    (subst (λ (x : State). SavesRun move.on (setting_on move.on program events frames) move.n (rested_from x) move.new move.work) is framed) h.leaves
+    (subst (λ (x : State). SavesRun move.on (setting_on move.on program events frames) move.n (rested_from x) move.new move.work) is framed)
+    h.leaves
 
 -- ---- the last command
 
@@ -143,7 +154,8 @@ record EndsRun (on : RunMode) (n : ℕ) (program : Image) (events : Events) (s :
   text : w.text ≡ text_of (trace_of reports) last.step end
   status_is : w.status ≡ status_of end
 
-continued_run : (on : RunMode) (n : ℕ) (program : Image) (events : Events) (s : State) (w : Outcome) → ContinuesOn on n program events s w → EndsRun on n program events s w
+continued_run : (on : RunMode) (n : ℕ) (program : Image) (events : Events) (s : State) (w : Outcome) → ContinuesOn on n program events s w
+    → EndsRun on n program events s w
 continued_run on n program events s w h = record {
   sets = h.sets;
   reports = h.reports;
@@ -155,7 +167,8 @@ continued_run on n program events s w h = record {
 }
 
 -- a run that was to be saved, and wasn't
-stopped_run : (on : RunMode) (n : ℕ) (name : List ℕ) (program : Image) (events : Events) (s : State) (w : Outcome) → w.status ≡ status.Stopped → SavesOn on n name program events s w → EndsRun on n program events s w
+stopped_run : (on : RunMode) (n : ℕ) (name : List ℕ) (program : Image) (events : Events) (s : State) (w : Outcome)
+    → w.status ≡ status.Stopped → SavesOn on n name program events s w → EndsRun on n program events s w
 stopped_run on n name program events s w stopped (Rested h) = absurd (stopped_so w.status stopped (ap (λ (v : Outcome). v.status) h.comes))
 stopped_run on n name program events s w stopped (Stopped h) = record {
   sets = h.sets;
@@ -170,13 +183,17 @@ stopped_run on n name program events s w stopped (Stopped h) = record {
 stop_ended : (st : Status) → st ≡ status.Stopped → HasEnded st
 stop_ended st is = subst HasEnded (sym is) tt
 
-last_run : (program : Image) (events : Events) (s : State) (move : Move) → IsLast program events s move → EndsRun move.on move.n program events s move.work
+last_run : (program : Image) (events : Events) (s : State) (move : Move) → IsLast program events s move
+    → EndsRun move.on move.n program events s move.work
 last_run program events s move last = elim last.ends [
   | inl h ↦
-      let from = reads_both (FromFile (ContinuesOn move.on move.n) move.on move.n (Some move.told) move.file) move.told move.image move.script program events move.work last.over.image_held last.over.script_held h.gives in
-      continued_run move.on move.n program events s move.work (from_ended (ContinuesOn move.on move.n) program events s move last.state_held from h.ended)
+      let from = reads_both (FromFile (ContinuesOn move.on move.n) move.on move.n (Some move.told) move.file) move.told move.image
+      move.script program events move.work last.over.image_held last.over.script_held h.gives in
+      continued_run move.on move.n program events s move.work
+      (from_ended (ContinuesOn move.on move.n) program events s move last.state_held from h.ended)
   | inr h ↦
-      let from = reads_both (FromFile (SavesOn move.on move.n move.new) move.on move.n (Some move.told) move.file) move.told move.image move.script program events move.work last.over.image_held last.over.script_held h.gives in
+      let from = reads_both (FromFile (SavesOn move.on move.n move.new) move.on move.n (Some move.told) move.file) move.told move.image
+      move.script program events move.work last.over.image_held last.over.script_held h.gives in
       stopped_run move.on move.n move.new program events s move.work h.stopped
       (from_ended (SavesOn move.on move.n move.new) program events s move last.state_held from (stop_ended move.work.status h.stopped))
 ]
@@ -284,7 +301,8 @@ parts_of program events frames (move ∷ moves) old mid before new [] leg h same
 
 reports_more : (legs : List Leg) (leg : Leg) → reports_of (legs ++ leg ∷ []) ≡ reports_of legs ++ leg.reports
 reports_more [] leg = append-nil leg.reports
-reports_more (l ∷ legs) leg = ap (λ (r : List Report). l.reports ++ r) (reports_more legs leg) ∙ sym (append_assoc l.reports (reports_of legs) leg.reports)
+reports_more (l ∷ legs) leg =
+    ap (λ (r : List Report). l.reports ++ r) (reports_more legs leg) ∙ sym (append_assoc l.reports (reports_of legs) leg.reports)
 
 -- the legs of some commands, what was printed by them, and the state that was saved last
 record SoFar (program : Image) (events : Events) (frames : ℕ) (moves : List Move) (lines : List ℕ) (s : State) : Type 0 where
@@ -331,17 +349,20 @@ at_first program events frames move s h =
 abbrev firsts : List Move → List ℕ
 firsts moves = flat_map (λ (m : Move). m.work.first) moves
 
-so_far : (program : Image) (events : Events) (frames : ℕ) (done moves : List Move) (lines : List ℕ) (s t : State) → SoFar program events frames done lines s → AreNext program events s moves t
+so_far : (program : Image) (events : Events) (frames : ℕ) (done moves : List Move) (lines : List ℕ) (s t : State)
+    → SoFar program events frames done lines s → AreNext program events s moves t
     → SoFar program events frames (done ++ moves) (lines ++ firsts moves) t
 so_far program events frames done [] lines s t h next =
     subst (λ (x : State). SoFar program events frames (done ++ []) (lines ++ []) x) (sym next)
-    (subst (λ (l : List ℕ). SoFar program events frames (done ++ []) l s) (sym (append-nil lines)) (subst (λ (d : List Move). SoFar program events frames d lines s) (sym (append-nil done)) h))
+    (subst (λ (l : List ℕ). SoFar program events frames (done ++ []) l s) (sym (append-nil lines))
+    (subst (λ (d : List Move). SoFar program events frames d lines s) (sym (append-nil done)) h))
 so_far program events frames done (move ∷ moves) lines s t h next =
     let leg = next_leg program events frames h.mid s move next.0 h.state_is h.size next.1 in
     let more = one_more program events frames done lines s move next.0 h leg in
     let all = so_far program events frames (done ++ move ∷ []) moves (lines ++ move.work.first) next.0 t more next.2 in
     subst (λ (l : List ℕ). SoFar program events frames (done ++ move ∷ moves) l t) (append_assoc lines move.work.first (firsts moves))
-    (subst (λ (d : List Move). SoFar program events frames d (lines ++ move.work.first ++ firsts moves) t) (append_assoc done (move ∷ []) moves) all)
+    (subst (λ (d : List Move). SoFar program events frames d (lines ++ move.work.first ++ firsts moves) t)
+    (append_assoc done (move ∷ []) moves) all)
 
 -- a bound of the bare machine doesn't depend on translations
 same_bound : (n : ℕ) (last : model.State) (set : Set) (end : End)
@@ -349,15 +370,21 @@ same_bound : (n : ℕ) (last : model.State) (set : Set) (end : End)
 same_bound n last set Bound = refl
 same_bound n last set (StoppedAt stop) = refl
 
-at_last : LegsAreARun → LegsAreParts → (program : Image) (events : Events) (frames : ℕ) (moves : List Move) (lines : List ℕ) (t : State) (move : Move) → SoFar program events frames moves lines t
+at_last : LegsAreARun → LegsAreParts → (program : Image) (events : Events) (frames : ℕ) (moves : List Move) (lines : List ℕ) (t : State)
+    (move : Move) → SoFar program events frames moves lines t
     → IsLast program events t move → AreOneRun program events frames moves move (lines ++ move.work.text)
 at_last law parts program events frames moves lines t move h last =
     let m = bare program events frames in
     let goes = last_run program events t move last in
-    let at_frames = subst (λ (f : ℕ). Run (setting_on move.on program events f) move.n (rested_from t) goes.sets goes.reports goes.last goes.end) (frames_are frames h.mid t h.state_is h.size) goes.run in
-    let at_mid = subst (λ (x : State). Run (setting_on move.on program events frames) move.n (rested_from x) goes.sets goes.reports goes.last goes.end) h.state_is at_frames in
+    let at_frames =
+    subst (λ (f : ℕ). Run (setting_on move.on program events f) move.n (rested_from t) goes.sets goes.reports goes.last goes.end)
+    (frames_are frames h.mid t h.state_is h.size) goes.run in
+    let at_mid =
+    subst (λ (x : State). Run (setting_on move.on program events frames) move.n (rested_from x) goes.sets goes.reports goes.last goes.end)
+    h.state_is at_frames in
     let l : Leg = record { mode = rules_of move.on program events frames; sets = goes.sets; reports = goes.reports } in
-    let run = subst (λ (x : Setting). Run x move.n (rested h.mid) goes.sets goes.reports goes.last goes.end) (sym (by_rules move.on program events frames)) at_mid in
+    let run = subst (λ (x : Setting). Run x move.n (rested h.mid) goes.sets goes.reports goes.last goes.end)
+    (sym (by_rules move.on program events frames)) at_mid in
     let before = as_legs program events frames moves (boot m) h.mid h.legs h.are in
     let whole = law m move.n h.legs l h.mid goes.last goes.end before run in
     let pieces = parts m move.n h.legs l h.mid goes.last goes.end before run in

@@ -39,7 +39,8 @@ use Rattle.pv_tool.proofs.Completes.{run_came}
 
 -- ---- `prove`
 
-is_proof : RunsAgree → (frames n : ℕ) (certificate : List ℕ) (program : Image) (events : Events) (o : Outside) (st : Status) (w : Outcome) → ProvesRun frames n certificate program events w → ComesTo w o st
+is_proof : RunsAgree → (frames n : ℕ) (certificate : List ℕ) (program : Image) (events : Events) (o : Outside) (st : Status) (w : Outcome)
+    → ProvesRun frames n certificate program events w → ComesTo w o st
     → IsProof program events frames n certificate o st
 is_proof agree frames n certificate program events o st w run came =
     let here = subst (λ (v : Outcome). ComesTo v o st) run.comes came in
@@ -61,7 +62,8 @@ is_proof agree frames n certificate program events o st w run came =
       bare_run = agree (wedge program events frames) n (boot (wedge program events frames)) run.sets run.reports run.last run.end run.run;
     }
 
-printed_proof : RunsAgree → (image script : List ℕ) (frames n : ℕ) (certificate : List ℕ) (o : Outside) (st : Status) → HasEnded st → ComesToOne ((task_of (Prove image script frames n certificate)).gives o.before.files) o st
+printed_proof : RunsAgree → (image script : List ℕ) (frames n : ℕ) (certificate : List ℕ) (o : Outside) (st : Status) → HasEnded st
+    → ComesToOne ((task_of (Prove image script frames n certificate)).gives o.before.files) o st
     → HasProof image script frames n certificate o st
 printed_proof agree image script frames n certificate o st ended h =
     let w = h.0 in
@@ -75,10 +77,13 @@ printed_proof agree image script frames n certificate o st ended h =
       proof = is_proof agree frames n certificate b.program b.events o st w run.1 h.2;
     }
 
-pub has_proof : RunsAgree → (image script : List ℕ) (frames n : ℕ) (certificate : List ℕ) (o : Outside) (st : Status) → HasEnded st → Means (task_of (Prove image script frames n certificate)) o st
+pub has_proof : RunsAgree → (image script : List ℕ) (frames n : ℕ) (certificate : List ℕ) (o : Outside) (st : Status) → HasEnded st
+    → Means (task_of (Prove image script frames n certificate)) o st
     → HasProof image script frames n certificate o st
-has_proof agree image script frames n certificate o status.Done ended h = printed_proof agree image script frames n certificate o status.Done ended h
-has_proof agree image script frames n certificate o status.Stopped ended h = printed_proof agree image script frames n certificate o status.Stopped ended h
+has_proof agree image script frames n certificate o status.Done ended h =
+    printed_proof agree image script frames n certificate o status.Done ended h
+has_proof agree image script frames n certificate o status.Stopped ended h =
+    printed_proof agree image script frames n certificate o status.Stopped ended h
 has_proof agree image script frames n certificate o status.Words ended h = absurd ended
 has_proof agree image script frames n certificate o status.Refused ended h = absurd ended
 has_proof agree image script frames n certificate o status.ReadFault ended h = absurd ended
@@ -89,13 +94,15 @@ has_proof agree image script frames n certificate o status.Memory ended h = absu
 pub prove_completes : RunsAgree → (words : List (List ℕ)) (o : Outside) (st : Status) → Completes words o st → ProvesAll words o st
 prove_completes agree words o st complete image script frames n certificate told program events free has le =
     let command = Prove image script frames n certificate in
-    let ran = run_came command (ProvesRun frames n certificate) frames image script o told program events st (λ w g. g) has.image_held has.script_held le (came_over words command told o st complete free) in
+    let ran = run_came command (ProvesRun frames n certificate) frames image script o told program events st (λ w g. g) has.image_held
+    has.script_held le (came_over words command told o st complete free) in
     is_proof agree frames n certificate program events o st ran.0 ran.1 ran.2
 
 -- ---- `replay`
 
 -- the verdict's line is all
-record HasJudged (frames n : ℕ) (files : Option FileMap) (certificate text : List ℕ) (program : Image) (events : Events) (w : Outcome) : Type 0 where
+record HasJudged (frames n : ℕ) (files : Option FileMap) (certificate text : List ℕ) (program : Image) (events : Events)
+    (w : Outcome) : Type 0 where
   list : List Choice
   bytes : List ℕ
   chosen : HasChoices files certificate list
@@ -106,24 +113,33 @@ record HasJudged (frames n : ℕ) (files : Option FileMap) (certificate text : L
 line_done : (w : Outcome) (line : List ℕ) → w ≡ refused line → w.status ≡ status.Done → ⊥
 line_done w line is done = let no : status.Refused ≡ status.Done = sym (ap (λ (v : Outcome). v.status) is) ∙ done in cc
 
-judged_done : (frames n : ℕ) (files : Option FileMap) (certificate text : List ℕ) (program : Image) (events : Events) (list : List Choice) (bytes : List ℕ) (w : Outcome) → HasChoices files certificate list → Holds files text bytes
+judged_done : (frames n : ℕ) (files : Option FileMap) (certificate text : List ℕ) (program : Image) (events : Events) (list : List Choice)
+    (bytes : List ℕ) (w : Outcome) → HasChoices files certificate list → Holds files text bytes
     → Judges frames n program events list bytes w → w.status ≡ status.Done → HasJudged frames n files certificate text program events w
-judged_done frames n files certificate text program events list bytes w chosen held (Ran fits is) done = record { list = list; bytes = bytes; chosen = chosen; held = held; fits = fits; comes = is }
+judged_done frames n files certificate text program events list bytes w chosen held (Ran fits is) done =
+    record { list = list; bytes = bytes; chosen = chosen; held = held; fits = fits; comes = is }
 judged_done frames n files certificate text program events list bytes w chosen held (Small lt is) done = absurd (line_done w _ is done)
 
-choices_done : (frames n : ℕ) (files : Option FileMap) (certificate text : List ℕ) (program : Image) (events : Events) (file : List ℕ) (r : Result (List Choice) ℕ) (w : Outcome) → Holds files certificate file → choices_in file ≡ r
+choices_done : (frames n : ℕ) (files : Option FileMap) (certificate text : List ℕ) (program : Image) (events : Events) (file : List ℕ)
+    (r : Result (List Choice) ℕ) (w : Outcome) → Holds files certificate file → choices_in file ≡ r
     → ByChoices frames n files text program events r w → w.status ≡ status.Done → HasJudged frames n files certificate text program events w
-choices_done frames n files certificate text program events file (Ok list) w holds is h done = judged_done frames n files certificate text program events list h.0 w (file, holds, is) h.1 h.2 done
-choices_done frames n files certificate text program events file (Err at) w holds is h done = absurd (line_done w (certificate_refusal at) h done)
+choices_done frames n files certificate text program events file (Ok list) w holds is h done =
+    judged_done frames n files certificate text program events list h.0 w (file, holds, is) h.1 h.2 done
+choices_done frames n files certificate text program events file (Err at) w holds is h done =
+    absurd (line_done w (certificate_refusal at) h done)
 
-replays_done : (frames n : ℕ) (files : Option FileMap) (certificate text : List ℕ) (program : Image) (events : Events) (w : Outcome) → Replays frames n files certificate text program events w → w.status ≡ status.Done
+replays_done : (frames n : ℕ) (files : Option FileMap) (certificate text : List ℕ) (program : Image) (events : Events) (w : Outcome)
+    → Replays frames n files certificate text program events w → w.status ≡ status.Done
     → HasJudged frames n files certificate text program events w
-replays_done frames n files certificate text program events w h done = choices_done frames n files certificate text program events h.0 (choices_in h.0) w h.1 refl h.2 done
+replays_done frames n files certificate text program events w h done =
+    choices_done frames n files certificate text program events h.0 (choices_in h.0) w h.1 refl h.2 done
 
-pub has_verdict : YesIsARun → YesBeforeIsSteps → (image script : List ℕ) (frames n : ℕ) (certificate text : List ℕ) (o : Outside) (st : Status) → st ≡ status.Done → Means (task_of (Replay image script frames n certificate text)) o st
+pub has_verdict : YesIsARun → YesBeforeIsSteps → (image script : List ℕ) (frames n : ℕ) (certificate text : List ℕ) (o : Outside)
+    (st : Status) → st ≡ status.Done → Means (task_of (Replay image script frames n certificate text)) o st
     → HasVerdict image script frames n certificate text o
 has_verdict right before image script frames n certificate text o st done h =
-    let p : ComesToOne ((task_of (Replay image script frames n certificate text)).gives o.before.files) o status.Done = subst (Means (task_of (Replay image script frames n certificate text)) o) done h in
+    let p : ComesToOne ((task_of (Replay image script frames n certificate text)).gives o.before.files) o status.Done =
+    subst (Means (task_of (Replay image script frames n certificate text)) o) done h in
     let w = p.0 in
     let b = reads_began (Replays frames n o.before.files certificate text) o.before.files image script w p.1 (subst HasEnded p.2.0 tt) in
     let j = replays_done frames n o.before.files certificate text b.program b.events w b.goes_on (sym p.2.0) in
@@ -143,7 +159,8 @@ has_verdict right before image script frames n certificate text o st done h =
     }
 
 -- a text that is held is judged
-judges_fits : (frames n : ℕ) (program : Image) (events : Events) (list : List Choice) (bytes : List ℕ) (w : Outcome) → need program ≤ frames → Judges frames n program events list bytes w
+judges_fits : (frames n : ℕ) (program : Image) (events : Events) (list : List Choice) (bytes : List ℕ) (w : Outcome) → need program ≤ frames
+    → Judges frames n program events list bytes w
     → w ≡ printed (verdict_line (judged program events frames n list bytes))
 judges_fits frames n program events list bytes w le (Ran fits is) = is
 judges_fits frames n program events list bytes w le (Small lt is) = absurd (omega (arith, le, lt))
@@ -151,7 +168,8 @@ judges_fits frames n program events list bytes w le (Small lt is) = absurd (omeg
 pub replay_completes : (words : List (List ℕ)) (o : Outside) (st : Status) → Completes words o st → JudgesAll words o st
 replay_completes words o st complete image script frames n certificate text told program events list bytes free has choices holds le =
     let c = came_over words (Replay image script frames n certificate text) told o st complete free in
-    let replays = reads_both (Replays frames n (Some told) certificate text) told image script program events c.0 has.image_held has.script_held c.1 in
+    let replays = reads_both (Replays frames n (Some told) certificate text) told image script program events c.0 has.image_held
+    has.script_held c.1 in
     let b = by_choices frames n told certificate text program events list c.0 choices replays in
     let same = same_file told text b.0 bytes b.1 holds in
     let judges = subst (λ (f : List ℕ). Judges frames n program events list f c.0) same b.2 in

@@ -53,7 +53,8 @@ pub record IsProof (program : Image) (events : Events) (frames n : ℕ) (certifi
   -- the host's part, and the run of the bare machine with the same translations before each step
   pub counts : CountsOn (wedge program events frames) reports o.before.completed o.after.completed
   pub memory : HasMemory (wedge program events frames) last end o.after.memory
-  pub bare_run : Run (bare program events frames) (bound_on_bare n last end) (boot (bare program events frames)) sets reports last (end_on_bare end)
+  pub bare_run : Run (bare program events frames) (bound_on_bare n last end) (boot (bare program events frames)) sets reports
+      last (end_on_bare end)
 
 -- of the image and the events that the files hold
 pub record HasProof (image script : List ℕ) (frames n : ℕ) (certificate : List ℕ) (o : Outside) (status : Status) : Type 0 where

@@ -32,11 +32,13 @@ pub record IsComparison (number : ℕ) (program : Image) (o : Outside) : Type 0 
   -- more and no fewer, and after all steps its first frames are this run's memory with the text patched.
   pub promise : Promise (second_setting program) 100000 512 second count end o.before.completed o.after.completed o.after.memory
   -- its sets, and that by which it stops, keep the rule for kept translations
-  pub kept : Kept (second_setting program) (boot (second_setting program)) (promise.sets ++ stopping (second_setting program) 100000 promise.last end promise.run.ends)
+  pub kept : Kept (second_setting program) (boot (second_setting program))
+      (promise.sets ++ stopping (second_setting program) 100000 promise.last end promise.run.ends)
   -- what was printed as filled lies between the bounds of what this run has filled, by the set at its end
   pub filled : HasOwnFills (second_setting program) 100000 512 promise.sets promise.last end promise.run.ends fills
   -- it is a run of the bare machine, up to a stop of the monitor's own
-  pub bare_run : Run (bare program [] 4096) (bound_on_bare 100000 promise.last end) (boot (bare program [] 4096)) promise.sets promise.reports promise.last (end_on_bare end)
+  pub bare_run : Run (bare program [] 4096) (bound_on_bare 100000 promise.last end) (boot (bare program [] 4096)) promise.sets
+      promise.reports promise.last (end_on_bare end)
 
 -- of the image that the number's kernel is built into
 pub record HasComparison (number : ℕ) (o : Outside) : Type 0 where

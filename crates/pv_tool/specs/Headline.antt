@@ -38,10 +38,12 @@ pub record IsHeadline (program : Image) (events : Events) (frames n : ℕ) (o : 
   pub promise : Promise (wedge program events frames) n 512 text count end o.before.completed o.after.completed o.after.memory
   -- Its sets, and that by which it stops, keep the rule for kept translations: which of them a run keeps from step to step,
   -- while its pages lie under few directory indices.
-  pub kept : Kept (wedge program events frames) (boot (wedge program events frames)) (promise.sets ++ stopping (wedge program events frames) n promise.last end promise.run.ends)
+  pub kept : Kept (wedge program events frames) (boot (wedge program events frames))
+      (promise.sets ++ stopping (wedge program events frames) n promise.last end promise.run.ends)
   -- It is a run of the bare machine, on the unpatched image, with the same translations before each step, the same items
   -- and the same states. Where it ends at a stop of the monitor's own the bare machine's run is that up to there.
-  pub bare_run : Run (bare program events frames) (bound_on_bare n promise.last end) (boot (bare program events frames)) promise.sets promise.reports promise.last (end_on_bare end)
+  pub bare_run : Run (bare program events frames) (bound_on_bare n promise.last end) (boot (bare program events frames)) promise.sets
+      promise.reports promise.last (end_on_bare end)
 
 -- of the image and the events that the files hold
 pub record HasHeadline (image script : List ℕ) (frames n : ℕ) (o : Outside) (status : Status) : Type 0 where

@@ -154,7 +154,8 @@ JudgesAll words o st =
     (image script : List ℕ) (frames n : ℕ) (certificate text : List ℕ) (told : FileMap) (program : Image) (events : Events)
     (list : List Choice) (bytes : List ℕ)
     → Unhindered words (Replay image script frames n certificate text) told o st
-    → HasRunnable (Some told) image script program events → HasChoices (Some told) certificate list → told text ≡ Some bytes → need program ≤ frames
+    → HasRunnable (Some told) image script program events → HasChoices (Some told) certificate list → told text ≡ Some bytes
+    → need program ≤ frames
     → ComesTo (printed (verdict_line (judged program events frames n list bytes))) o st
 
 -- ---- as laws

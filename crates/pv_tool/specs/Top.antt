@@ -77,5 +77,6 @@ Proves words o st =
 -- `replay` that is done has said what is judged
 abbrev pub Judges : List (List ℕ) → Outside → Status → Type 0
 Judges words o st =
-    (image script : List ℕ) (frames n : ℕ) (certificate text : List ℕ) → Asks words (Replay image script frames n certificate text) → st ≡ status.Done
+    (image script : List ℕ) (frames n : ℕ) (certificate text : List ℕ)
+    → Asks words (Replay image script frames n certificate text) → st ≡ status.Done
     → HasVerdict image script frames n certificate text o

@@ -28,5 +28,6 @@ slot-none s m few page l =
 
 pub roots-alone : (r : Roots) (m : List ℕ) → length (roots.frames r m) ≤ 2 → entries_of (roots.slots r m) ≡ empty
 roots-alone r m few =
-    let many = ap (λ (fs : List ℕ). length fs) (frames-cons r.present r.others m) ∙ length-append (held r.present.shadow m) (Rattle.shadow_cache.specs.Pairs.frames_of r.others m) in
+    let many = ap (λ (fs : List ℕ). length fs) (frames-cons r.present r.others m)
+    ∙ length-append (held r.present.shadow m) (Rattle.shadow_cache.specs.Pairs.frames_of r.others m) in
     entries_of-none (roots.slots r m) (slot-none r.present.shadow m (omega (arith, few, many)))

@@ -37,7 +37,8 @@ of-is v (p ∷ ps) q e =
 
 -- ---- fewer pairs
 
-cond-none : (b : Bool) (p : Past) (qs : List Past) (v : ℕ) → (eqb p.value v || has_value v qs) ≡ false → has_value v (cond b (p ∷ qs) qs) ≡ false
+cond-none : (b : Bool) (p : Past) (qs : List Past) (v : ℕ) → (eqb p.value v || has_value v qs) ≡ false
+    → has_value v (cond b (p ∷ qs) qs) ≡ false
 cond-none true p qs v e = e
 cond-none false p qs v e = (or_parts (eqb p.value v) (has_value v qs) e).1
 
@@ -51,7 +52,8 @@ pub take-none : (n : ℕ) (ps : List Past) (v : ℕ) → has_value v ps ≡ fals
 take-none zero ps v e = refl
 take-none (suc n) [] v e = refl
 take-none (suc n) (p ∷ ps) v e =
-    or_from (eqb p.value v) (has_value v (take n ps)) (or_parts (eqb p.value v) (has_value v ps) e).0 (take-none n ps v (or_parts (eqb p.value v) (has_value v ps) e).1)
+    or_from (eqb p.value v) (has_value v (take n ps)) (or_parts (eqb p.value v) (has_value v ps) e).0
+    (take-none n ps v (or_parts (eqb p.value v) (has_value v ps) e).1)
 
 pub but-none : (w : ℕ) (ps : List Past) (v : ℕ) → has_value v ps ≡ false → has_value v (but_value w ps) ≡ false
 but-none w [] v e = refl
@@ -91,7 +93,8 @@ but-gone v [] a = refl
 but-gone v (p ∷ ps) a =
     elim (eqb_tells p.value v) [
       | inl t ↦ ap (λ b. has_value v (cond b ps (p ∷ but_value v ps))) t.0 ∙ ap (λ x. has_value x ps) (sym t.1) ∙ a.0
-      | inr t ↦ ap (λ b. has_value v (cond b ps (p ∷ but_value v ps))) t.0 ∙ or_from (eqb p.value v) (has_value v (but_value v ps)) t.0 (but-gone v ps a.1)
+      | inr t ↦ ap (λ b. has_value v (cond b ps (p ∷ but_value v ps))) t.0 ∙ or_from (eqb p.value v) (has_value v (but_value v ps))
+          t.0 (but-gone v ps a.1)
     ]
 
 unmarked-apart-by : (b : Bool) (p : Past) (ps : List Past) → AreApart (p ∷ ps) → AreApart (cond b ps (p ∷ ps))

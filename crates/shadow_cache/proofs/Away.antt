@@ -57,7 +57,8 @@ fronts-few p vs (q ∷ qs) a f =
     let r = fronts-few p (all_but q.value vs) qs a.1 (fronts-but p q.value vs qs a.0 f.2) in
     let s = but-short q.value vs f.0 in omega (arith, r, s)
 
-one-fronts : (p : Past) (vs : List ℕ) (b : Bool) (q : Past) (qs : List Past) → is_among q.value vs ≡ true → eqb q.value p.value ≡ false → Fronts p vs qs → Fronts p vs (cond b (q ∷ qs) qs)
+one-fronts : (p : Past) (vs : List ℕ) (b : Bool) (q : Past) (qs : List Past) → is_among q.value vs ≡ true → eqb q.value p.value ≡ false
+    → Fronts p vs qs → Fronts p vs (cond b (q ∷ qs) qs)
 one-fronts p vs true q qs x y f = (x, y, f)
 one-fronts p vs false q qs x y f = f
 
@@ -114,7 +115,8 @@ but-behind v (f ∷ fs) ps e =
     ap (λ b. cond b (fs ++ ps) (f ∷ but_value v (fs ++ ps))) (or_parts (eqb f.value v) (has_value v fs) e).0
     ∙ ap (λ (xs : List Past). f ∷ xs) (but-behind v fs ps (or_parts (eqb f.value v) (has_value v fs) e).1)
 
-take-behind : (n : ℕ) (fs : List Past) (p : Past) (ps : List Past) → length fs < n → take n (fs ++ p ∷ ps) ≡ fs ++ p ∷ take (n - suc (length fs)) ps
+take-behind : (n : ℕ) (fs : List Past) (p : Past) (ps : List Past) → length fs < n → take n (fs ++ p ∷ ps) ≡ fs
+    ++ p ∷ take (n - suc (length fs)) ps
 take-behind zero fs p ps l = absurd (omega (arith, l))
 take-behind (suc n) [] p ps l = ap (λ k. p ∷ take k ps) (let e : n ≡ suc n - 1 = omega arith in e)
 take-behind (suc n) (f ∷ fs) p ps l =
@@ -125,7 +127,8 @@ one-behind : (b : Bool) (f : Past) (fs ps : List Past) → cond b (f ∷ (fs ++ 
 one-behind true f fs ps = refl
 one-behind false f fs ps = refl
 
-filter-behind : (t : Past → Bool) (fs : List Past) (p : Past) (ps : List Past) → t p ≡ true → filter t (fs ++ p ∷ ps) ≡ filter t fs ++ p ∷ filter t ps
+filter-behind : (t : Past → Bool) (fs : List Past) (p : Past) (ps : List Past) → t p ≡ true
+    → filter t (fs ++ p ∷ ps) ≡ filter t fs ++ p ∷ filter t ps
 filter-behind t [] p ps e = ap (λ b. cond b (p ∷ filter t ps) (filter t ps)) e
 filter-behind t (f ∷ fs) p ps e =
     ap (λ (xs : List Past). cond (t f) (f ∷ xs) xs) (filter-behind t fs p ps e) ∙ one-behind (t f) f (filter t fs) (p ∷ filter t ps)
@@ -141,7 +144,8 @@ record Away (p : Past) (vs : List ℕ) (ps : List Past) : Type 0 where
   fronts : Fronts p vs (first ∷ more)
 
 -- a load of another value, where the present pair stays or has left
-module _ (p : Past) (vs : List ℕ) (few : length vs ≤ 7) (v : ℕ) (among : is_among v vs ≡ true) (other : p.value ≢ v) (fs rest : List Past) (a : AreApart fs) (f : Fronts p vs fs) where
+module _ (p : Past) (vs : List ℕ) (few : length vs ≤ 7) (v : ℕ) (among : is_among v vs ≡ true) (other : p.value ≢ v) (fs rest : List Past)
+    (a : AreApart fs) (f : Fronts p vs fs) where
   not-it : eqb p.value v ≡ false
   not-it = elim (eqb_tells p.value v) [ inl t ↦ absurd (other t.1) | inr t ↦ t.0 ]
 
@@ -156,7 +160,8 @@ module _ (p : Past) (vs : List ℕ) (few : length vs ≤ 7) (v : ℕ) (among : i
         first = q;
         more = but_value v fs;
         rest = rest;
-        place = ap (with_front v (fs ++ p ∷ rest)) (of-front v fs (p ∷ rest) q e) ∙ ap (λ (xs : List Past). q ∷ xs) (but-front v fs (p ∷ rest) q e);
+        place = ap (with_front v (fs ++ p ∷ rest)) (of-front v fs (p ∷ rest) q e)
+            ∙ ap (λ (xs : List Past). q ∷ xs) (but-front v fs (p ∷ rest) q e);
         apart = (ap (λ x. has_value x (but_value v fs)) is ∙ but-gone v fs a, but-apart v fs a);
         fronts = (ap (λ x. is_among x vs) is ∙ among, ap (λ x. eqb x p.value) is ∙ it-not, but-fronts p vs v fs f);
       }
@@ -186,7 +191,8 @@ module _ (p : Past) (vs : List ℕ) (few : length vs ≤ 7) (v : ℕ) (among : i
         first = begun v;
         more = fs;
         rest = take (7 - suc (length fs)) rest;
-        place = ap (with_front v (fs ++ p ∷ rest)) (behind n ∙ e) ∙ ap (λ (xs : List Past). begun v ∷ xs) (take-behind 7 fs p rest (omega (arith, few, most)));
+        place = ap (with_front v (fs ++ p ∷ rest)) (behind n ∙ e)
+            ∙ ap (λ (xs : List Past). begun v ∷ xs) (take-behind 7 fs p rest (omega (arith, few, most)));
         apart = (n, a);
         fronts = (among, it-not, f);
       }
@@ -207,21 +213,24 @@ unmarked-away : (P : List Past → Type 0) (b : Bool) (q : Past) (qs : List Past
 unmarked-away P true q qs x y = x
 unmarked-away P false q qs x y = y
 
-switch-away : (p : Past) (vs : List ℕ) (n v : ℕ) (ps : List Past) → length vs ≤ 7 → is_among v vs ≡ true → p.value ≢ v → Away p vs ps → Away p vs (after_call n (Switch v) ps)
+switch-away : (p : Past) (vs : List ℕ) (n v : ℕ) (ps : List Past) → length vs ≤ 7 → is_among v vs ≡ true → p.value ≢ v → Away p vs ps
+    → Away p vs (after_call n (Switch v) ps)
 switch-away p vs n v ps few among other w =
     subst (λ (xs : List Past). Away p vs (after_switch v (unmarked xs))) (sym w.place)
     (unmarked-away (λ (xs : List Past). Away p vs (after_switch v xs)) w.first.stale w.first (w.more ++ p ∷ w.rest)
     (load-away p vs few v among other w.more w.rest w.apart.1 w.fronts.2)
     (load-away p vs few v among other (w.first ∷ w.more) w.rest w.apart w.fronts))
 
-leave-away : (p : Past) (vs : List ℕ) (n v : ℕ) (ps : List Past) → length vs ≤ 7 → is_among v vs ≡ true → p.value ≢ v → p.stale ≡ false → IsPresent p ps → Away p vs (after_call n (Switch v) ps)
+leave-away : (p : Past) (vs : List ℕ) (n v : ℕ) (ps : List Past) → length vs ≤ 7 → is_among v vs ≡ true → p.value ≢ v → p.stale ≡ false
+    → IsPresent p ps → Away p vs (after_call n (Switch v) ps)
 leave-away p vs n v ps few among other u i =
     subst (λ (xs : List Past). Away p vs (after_switch v (unmarked xs))) (sym i.first)
     (subst (λ b. Away p vs (after_switch v (cond b i.others (p ∷ i.others)))) (sym u)
     (load-away p vs few v among other [] i.others tt tt))
 
 -- another pair in the place of the present one, of its value
-away-instead : (p : Past) (vs : List ℕ) (ps : List Past) (w : Away p vs ps) (q : Past) → q.value ≡ w.first.value → Away p vs (q ∷ (w.more ++ p ∷ w.rest))
+away-instead : (p : Past) (vs : List ℕ) (ps : List Past) (w : Away p vs ps) (q : Past) → q.value ≡ w.first.value
+    → Away p vs (q ∷ (w.more ++ p ∷ w.rest))
 away-instead p vs ps w q e =
     record {
       first = q;
@@ -232,7 +241,8 @@ away-instead p vs ps w q e =
       fronts = (ap (λ x. is_among x vs) e ∙ w.fronts.0, ap (λ x. eqb x p.value) e ∙ w.fronts.1, w.fronts.2);
     }
 
-written-away : (p : Past) (vs : List ℕ) (n frame : ℕ) (ps : List Past) → is_among frame p.tables ≡ false → Away p vs ps → Away p vs (after_shared n (Written frame) ps)
+written-away : (p : Past) (vs : List ℕ) (n frame : ℕ) (ps : List Past) → is_among frame p.tables ≡ false → Away p vs ps
+    → Away p vs (after_shared n (Written frame) ps)
 written-away p vs n frame ps l w =
     let t : Past → Bool = λ q. not (is_among frame q.tables) in
     let q : Past = marked_at frame w.first in
@@ -246,20 +256,28 @@ written-away p vs n frame ps l w =
       fronts = (ap (λ x. is_among x vs) e ∙ w.fronts.0, ap (λ x. eqb x p.value) e ∙ w.fronts.1, filter-fronts p vs t w.more w.fronts.2);
     })
 
-shared-away : (p : Past) (vs : List ℕ) (n : ℕ) (c : Call) (ps : List Past) → LeavesBe p (Shared c) → Away p vs ps → Away p vs (after_shared n c ps)
-shared-away p vs n (Fill side entry wp) ps l w = subst (λ (xs : List Past). Away p vs (after_shared n (Fill side entry wp) xs)) (sym w.place) (away-instead p vs ps w _ refl)
-shared-away p vs n (DropPage page) ps l w = subst (λ (xs : List Past). Away p vs (after_shared n (DropPage page) xs)) (sym w.place) (away-instead p vs ps w _ refl)
-shared-away p vs n (DropDir index) ps l w = subst (λ (xs : List Past). Away p vs (after_shared n (DropDir index) xs)) (sym w.place) (away-instead p vs ps w _ refl)
+shared-away : (p : Past) (vs : List ℕ) (n : ℕ) (c : Call) (ps : List Past) → LeavesBe p (Shared c) → Away p vs ps
+    → Away p vs (after_shared n c ps)
+shared-away p vs n (Fill side entry wp) ps l w =
+    subst (λ (xs : List Past). Away p vs (after_shared n (Fill side entry wp) xs)) (sym w.place) (away-instead p vs ps w _ refl)
+shared-away p vs n (DropPage page) ps l w =
+    subst (λ (xs : List Past). Away p vs (after_shared n (DropPage page) xs)) (sym w.place) (away-instead p vs ps w _ refl)
+shared-away p vs n (DropDir index) ps l w =
+    subst (λ (xs : List Past). Away p vs (after_shared n (DropDir index) xs)) (sym w.place) (away-instead p vs ps w _ refl)
 shared-away p vs n DropAll ps l w = absurd l
-shared-away p vs n (Note frame) ps l w = subst (λ (xs : List Past). Away p vs (after_shared n (Note frame) xs)) (sym w.place) (away-instead p vs ps w _ refl)
+shared-away p vs n (Note frame) ps l w =
+    subst (λ (xs : List Past). Away p vs (after_shared n (Note frame) xs)) (sym w.place) (away-instead p vs ps w _ refl)
 shared-away p vs n (Written frame) ps l w = written-away p vs n frame ps l w
 
-calls-away : (p : Past) (vs : List ℕ) (n : ℕ) (cs : List RootsCall) (ps : List Past) → length vs ≤ 7 → AllLeaveBe p cs → LoadsAmong vs cs → Away p vs ps → Away p vs (after_calls n cs ps)
+calls-away : (p : Past) (vs : List ℕ) (n : ℕ) (cs : List RootsCall) (ps : List Past) → length vs ≤ 7 → AllLeaveBe p cs → LoadsAmong vs cs
+    → Away p vs ps → Away p vs (after_calls n cs ps)
 calls-away p vs n [] ps few l m w = subst (Away p vs) (sym (calls-none n ps)) w
 calls-away p vs n (Shared c ∷ cs) ps few l m w =
-    subst (Away p vs) (sym (calls-cons n (Shared c) cs ps)) (calls-away p vs (suc n) cs (after_shared n c ps) few l.1 m (shared-away p vs n c ps l.0 w))
+    subst (Away p vs) (sym (calls-cons n (Shared c) cs ps))
+    (calls-away p vs (suc n) cs (after_shared n c ps) few l.1 m (shared-away p vs n c ps l.0 w))
 calls-away p vs n (Switch v ∷ cs) ps few l m w =
-    subst (Away p vs) (sym (calls-cons n (Switch v) cs ps)) (calls-away p vs (suc n) cs (after_call n (Switch v) ps) few l.1 m.1 (switch-away p vs n v ps few m.0 l.0 w))
+    subst (Away p vs) (sym (calls-cons n (Switch v) cs ps))
+    (calls-away p vs (suc n) cs (after_call n (Switch v) ps) few l.1 m.1 (switch-away p vs n v ps few m.0 l.0 w))
 
 -- ---- and back
 
@@ -268,7 +286,8 @@ back p vs fs rest f =
     let here : eqb p.value p.value ≡ true = elim (eqb_tells p.value p.value) [ inl t ↦ t.0 | inr t ↦ absurd (t.1 refl) ] in
     record {
       others = but_value p.value (fs ++ p ∷ rest);
-      first = ap (with_front p.value (fs ++ p ∷ rest)) (of-behind p.value fs (p ∷ rest) (fronts-none p vs fs f) ∙ ap (λ b. cond b (Some p) (of_value p.value rest)) here);
+      first = ap (with_front p.value (fs ++ p ∷ rest))
+          (of-behind p.value fs (p ∷ rest) (fronts-none p vs fs f) ∙ ap (λ b. cond b (Some p) (of_value p.value rest)) here);
     }
 
 away-back : (p : Past) (vs : List ℕ) (n : ℕ) (ps : List Past) → Away p vs ps → IsPresent p (after_call n (Switch p.value) ps)
@@ -283,6 +302,8 @@ pairs-come_back value other before away vs p i u l m few =
     let n : ℕ = 0 + length before in
     let start = leave-away p vs n other (pairs_after value before) few m.0 l.0 u i in
     let gone = calls-away p vs (suc n) away (after_call n (Switch other) (pairs_after value before)) few l.1 m.1 start in
-    let there = subst (Away p vs) (sym (pairs-join value before (Switch other ∷ away) ∙ calls-cons n (Switch other) away (pairs_after value before))) gone in
+    let there =
+    subst (Away p vs) (sym (pairs-join value before (Switch other ∷ away) ∙ calls-cons n (Switch other) away (pairs_after value before)))
+    gone in
     subst (IsPresent p) (sym (pairs-more value (before ++ Switch other ∷ away) (Switch p.value)))
     (away-back p vs (length (before ++ Switch other ∷ away)) (pairs_after value (before ++ Switch other ∷ away)) there)

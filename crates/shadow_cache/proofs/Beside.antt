@@ -18,7 +18,8 @@ use Rattle.shadow_cache.specs.Laws.{keeps-same, frames-cons, times-frames, bars-
 pub bars-fewer : (t u : ℕ → Bool) (f : ℕ → Option Slot) → ((x : ℕ) → u x ≡ true → t x ≡ true) → BarsWrites t f → BarsWrites u f
 bars-fewer t u f i b = λ page slot l e y. b page slot l e (i slot.entry.frame y)
 
-pub all-fewer : (t u : ℕ → Bool) (ps : List Pair) (m : List ℕ) → ((x : ℕ) → u x ≡ true → t x ≡ true) → AllBarWrites t ps m → AllBarWrites u ps m
+pub all-fewer : (t u : ℕ → Bool) (ps : List Pair) (m : List ℕ) → ((x : ℕ) → u x ≡ true → t x ≡ true) → AllBarWrites t ps m
+    → AllBarWrites u ps m
 all-fewer t u [] m i b = tt
 all-fewer t u (p ∷ ps) m i b = (bars-fewer t u (slot_at p.shadow m) i b.0, all-fewer t u ps m i b.1)
 
@@ -27,7 +28,8 @@ tables-part ps qs i = λ f e. tables-any ps f ∙ i f (sym (tables-any qs f) ∙
 
 -- ---- the frames
 
-module _ (pool pool' : Pool) (p : Pair) (ps ps' : List Pair) (m m' : List ℕ) (h : IsRoots (p ∷ ps) m) (o : Owns pool m (frames_of (p ∷ ps) m)) where
+module _ (pool pool' : Pool) (p : Pair) (ps ps' : List Pair) (m m' : List ℕ) (h : IsRoots (p ∷ ps) m)
+    (o : Owns pool m (frames_of (p ∷ ps) m)) where
   swap : (f : ℕ) → times f (frames_of ps m ++ held p.shadow m) ≡ times f (frames_of (p ∷ ps) m)
   swap f = let a = times-append f (frames_of ps m) (held p.shadow m) in let b = times-frames f p ps m in omega (arith, a, b)
 
@@ -55,19 +57,23 @@ module _ (pool pool' : Pool) (p : Pair) (ps ps' : List Pair) (m m' : List ℕ) (
 
     swap' : (f : ℕ) → times f (frames_of (p ∷ ps') m') ≡ times f (frames_of ps' m' ++ held p.shadow m)
     swap' f =
-        let a = times-append f (frames_of ps' m') (held p.shadow m) in let b = times-frames f p ps' m' in let c = ap (times f) beside-held in omega (arith, a, b, c)
+        let a = times-append f (frames_of ps' m') (held p.shadow m) in let b = times-frames f p ps' m' in
+        let c = ap (times f) beside-held in omega (arith, a, b, c)
 
     pub beside-moves : Moves pool pool' m m' (frames_of (p ∷ ps) m) (frames_of (p ∷ ps') m')
     beside-moves =
-        Moves-counts_from pool pool' m m' (frames_of ps m ++ held p.shadow m) (frames_of (p ∷ ps) m) (frames_of (p ∷ ps') m') (λ f. sym (swap f))
-        (Moves-counts pool pool' m m' (frames_of ps m ++ held p.shadow m) (frames_of ps' m' ++ held p.shadow m) (frames_of (p ∷ ps') m') swap'
+        Moves-counts_from pool pool' m m' (frames_of ps m ++ held p.shadow m) (frames_of (p ∷ ps) m)
+        (frames_of (p ∷ ps') m') (λ f. sym (swap f))
+        (Moves-counts pool pool' m m' (frames_of ps m ++ held p.shadow m) (frames_of ps' m' ++ held p.shadow m)
+        (frames_of (p ∷ ps') m') swap'
         (Moves-beside pool pool' m m' (frames_of ps m) (frames_of ps' m') (held p.shadow m) v))
 
     pub beside-owns : Owns pool' m' (frames_of (p ∷ ps') m')
     beside-owns = Owns-moves pool pool' m m' (frames_of (p ∷ ps) m) (frames_of (p ∷ ps') m') o beside-moves
 
     -- fewer others, and of fewer tables
-    pub beside-roots : (p' : Pair) → p'.shadow ≡ p.shadow → length p'.tables ≡ 16384 → length ps' ≤ length ps → AreShadows ps' m' → AreSized ps' → AllBarWrites (any_reads (p ∷ ps)) ps' m' → AreUnmarked ps'
+    pub beside-roots : (p' : Pair) → p'.shadow ≡ p.shadow → length p'.tables ≡ 16384 → length ps' ≤ length ps → AreShadows ps' m'
+        → AreSized ps' → AllBarWrites (any_reads (p ∷ ps)) ps' m' → AreUnmarked ps'
         → ((x : ℕ) → any_reads (p' ∷ ps') x ≡ true → any_reads (p ∷ ps) x ≡ true) → IsRoots (p' ∷ ps') m'
     beside-roots p' same size few shadows sized barred unmarked fewer =
         let same' = sym same in let most = h.few in
@@ -79,7 +85,8 @@ module _ (pool pool' : Pool) (p : Pair) (ps ps' : List Pair) (m m' : List ℕ) (
           sized = (size, sized);
           barred = (
             bars-fewer (any_reads (p ∷ ps)) (any_reads (p' ∷ ps')) (slot_at p'.shadow m') fewer
-                (subst (λ s. BarsWrites (any_reads (p ∷ ps)) (slot_at s m')) same' (bars-same (any_reads (p ∷ ps)) (slot_at p.shadow m) (slot_at p.shadow m') beside-slots h.barred.0)),
+                (subst (λ s. BarsWrites (any_reads (p ∷ ps)) (slot_at s m')) same'
+                (bars-same (any_reads (p ∷ ps)) (slot_at p.shadow m) (slot_at p.shadow m') beside-slots h.barred.0)),
             all-fewer (any_reads (p ∷ ps)) (any_reads (p' ∷ ps')) ps' m' fewer barred,
           );
           unmarked = unmarked;
@@ -103,11 +110,13 @@ pub sized-filter : (t : Pair → Bool) (ps : List Pair) → AreSized ps → AreS
 sized-filter t [] h = tt
 sized-filter t (p ∷ ps) h = one-sized (t p) p (filter t ps) h.0 (sized-filter t ps h.1)
 
-one-barred : (test : ℕ → Bool) (b : Bool) (p : Pair) (qs : List Pair) (m : List ℕ) → BarsWrites test (slot_at p.shadow m) → AllBarWrites test qs m → AllBarWrites test (cond b (p ∷ qs) qs) m
+one-barred : (test : ℕ → Bool) (b : Bool) (p : Pair) (qs : List Pair) (m : List ℕ) → BarsWrites test (slot_at p.shadow m)
+    → AllBarWrites test qs m → AllBarWrites test (cond b (p ∷ qs) qs) m
 one-barred test true p qs m h k = (h, k)
 one-barred test false p qs m h k = k
 
-pub barred-filter : (test : ℕ → Bool) (t : Pair → Bool) (ps : List Pair) (m : List ℕ) → AllBarWrites test ps m → AllBarWrites test (filter t ps) m
+pub barred-filter : (test : ℕ → Bool) (t : Pair → Bool) (ps : List Pair) (m : List ℕ) → AllBarWrites test ps m
+    → AllBarWrites test (filter t ps) m
 barred-filter test t [] m h = tt
 barred-filter test t (p ∷ ps) m h = one-barred test (t p) p (filter t ps) m h.0 (barred-filter test t ps m h.1)
 
@@ -123,7 +132,8 @@ pub or-less : (a b c : Bool) → (a || b) ≡ true → (b ≡ true → c ≡ tru
 or-less true b c e h = refl
 or-less false b c e h = h e
 
-one-any : (b : Bool) (p : Pair) (qs ps : List Pair) (x : ℕ) → any_reads (cond b (p ∷ qs) qs) x ≡ true → (any_reads qs x ≡ true → any_reads ps x ≡ true) → (reads p x || any_reads ps x) ≡ true
+one-any : (b : Bool) (p : Pair) (qs ps : List Pair) (x : ℕ) → any_reads (cond b (p ∷ qs) qs) x ≡ true
+    → (any_reads qs x ≡ true → any_reads ps x ≡ true) → (reads p x || any_reads ps x) ≡ true
 one-any true p qs ps x e h = or-less (reads p x) (any_reads qs x) (any_reads ps x) e h
 one-any false p qs ps x e h = or_right (reads p x) (any_reads ps x) (h e)
 
@@ -132,7 +142,8 @@ any-filter t [] x e = e
 any-filter t (p ∷ ps) x e = one-any (t p) p (filter t ps) ps x e (any-filter t ps x)
 
 -- none that stay read the frame
-one-reads : (b : Bool) (p : Pair) (qs : List Pair) (frame : ℕ) → reads p frame ≡ b → any_reads qs frame ≡ false → any_reads (cond (not b) (p ∷ qs) qs) frame ≡ false
+one-reads : (b : Bool) (p : Pair) (qs : List Pair) (frame : ℕ) → reads p frame ≡ b → any_reads qs frame ≡ false
+    → any_reads (cond (not b) (p ∷ qs) qs) frame ≡ false
 one-reads true p qs frame e h = h
 one-reads false p qs frame e h = ap (λ b. b || any_reads qs frame) e ∙ h
 
@@ -142,12 +153,14 @@ none-reads (p ∷ ps) frame = one-reads (reads p frame) p (filter (λ q. not (re
 
 -- ---- one bit
 
-pub reads-set : (bits : List Bool) (i f : ℕ) (v : Bool) → (get_or (slice_set bits i v) f false ≡ get_or bits f false) ⊎ ((f ≡ i) × (i < length bits) × (get_or (slice_set bits i v) f false ≡ v))
+pub reads-set : (bits : List Bool) (i f : ℕ) (v : Bool) → (get_or (slice_set bits i v) f false ≡ get_or bits f false)
+    ⊎ ((f ≡ i) × (i < length bits) × (get_or (slice_set bits i v) f false ≡ v))
 reads-set [] i f v = inl refl
 reads-set (b ∷ bs) zero zero v = inr (refl, omega arith, refl)
 reads-set (b ∷ bs) zero (suc f) v = inl refl
 reads-set (b ∷ bs) (suc i) zero v = inl refl
-reads-set (b ∷ bs) (suc i) (suc f) v = elim (reads-set bs i f v) [ inl e ↦ inl e | inr t ↦ (let e = t.0 in let l = t.1 in inr (omega (arith, e), omega (arith, l), t.2)) ]
+reads-set (b ∷ bs) (suc i) (suc f) v =
+    elim (reads-set bs i f v) [ inl e ↦ inl e | inr t ↦ (let e = t.0 in let l = t.1 in inr (omega (arith, e), omega (arith, l), t.2)) ]
 
 pub reads-there : (bits : List Bool) (i : ℕ) (v : Bool) → i < length bits → get_or (slice_set bits i v) i false ≡ v
 reads-there [] i v l = absurd (omega (arith, l))

@@ -23,7 +23,8 @@ use Rattle.shadow_cache.proofs.Small.{length-set}
 pub frames-shadow : (p p' : Pair) (ps : List Pair) (m : List ℕ) → p'.shadow ≡ p.shadow → frames_of (p' ∷ ps) m ≡ frames_of (p ∷ ps) m
 frames-shadow p p' ps m e = frames-cons p' ps m ∙ ap (λ s. held s m ++ frames_of ps m) e ∙ sym (frames-cons p ps m)
 
-pub roots-shadow : (p p' : Pair) (ps : List Pair) (m : List ℕ) → IsRoots (p ∷ ps) m → p'.shadow ≡ p.shadow → length p'.tables ≡ 16384 → ((x : ℕ) → any_reads (p' ∷ ps) x ≡ true → any_reads (p ∷ ps) x ≡ true) → IsRoots (p' ∷ ps) m
+pub roots-shadow : (p p' : Pair) (ps : List Pair) (m : List ℕ) → IsRoots (p ∷ ps) m → p'.shadow ≡ p.shadow → length p'.tables ≡ 16384
+    → ((x : ℕ) → any_reads (p' ∷ ps) x ≡ true → any_reads (p ∷ ps) x ≡ true) → IsRoots (p' ∷ ps) m
 roots-shadow p p' ps m h e size i =
     let e' = sym e in
     record {
@@ -32,7 +33,8 @@ roots-shadow p p' ps m h e size i =
       shadows = (subst (λ s. IsShadow s m) e' h.shadows.0, h.shadows.1);
       sized = (size, h.sized.1);
       barred = (
-        bars-fewer (any_reads (p ∷ ps)) (any_reads (p' ∷ ps)) (slot_at p'.shadow m) i (subst (λ s. BarsWrites (any_reads (p ∷ ps)) (slot_at s m)) e' h.barred.0),
+        bars-fewer (any_reads (p ∷ ps)) (any_reads (p' ∷ ps)) (slot_at p'.shadow m) i
+            (subst (λ s. BarsWrites (any_reads (p ∷ ps)) (slot_at s m)) e' h.barred.0),
         all-fewer (any_reads (p ∷ ps)) (any_reads (p' ∷ ps)) ps m i h.barred.1,
       );
       unmarked = h.unmarked;
@@ -49,13 +51,15 @@ bars-empty test p m e = λ page slot l q t. absurd (none-some slot (sym (e.none 
 unread : (p : Pair) (x : ℕ) → any_reads (emptied_pair p ∷ []) x ≡ false
 unread p x = ap (λ b. b || false) (no-reads x)
 
-module _ (pool pool1 pool2 : Pool) (p : Pair) (ps ps' : List Pair) (m m1 m2 : List ℕ) (h : IsRoots (p ∷ ps) m) (o : Owns pool m (frames_of (p ∷ ps) m)) (none : ps' ≡ [])
+module _ (pool pool1 pool2 : Pool) (p : Pair) (ps ps' : List Pair) (m m1 m2 : List ℕ) (h : IsRoots (p ∷ ps) m)
+    (o : Owns pool m (frames_of (p ∷ ps) m)) (none : ps' ≡ [])
     (v : Moves pool pool1 m m1 (frames_of ps m) []) where
   gone : Moves pool pool1 m m1 (frames_of ps m) (frames_of [] m1)
   gone = subst (Moves pool pool1 m m1 (frames_of ps m)) (sym (none-frames m1)) v
 
   alone : IsRoots (p ∷ []) m1
-  alone = beside-roots pool pool1 p ps [] m m1 h o gone p refl h.sized.0 (omega arith) tt tt tt tt (λ x e. or-less (reads p x) false (any_reads ps x) e (λ f. absurd (both_ways false refl f)))
+  alone = beside-roots pool pool1 p ps [] m m1 h o gone p refl h.sized.0 (omega arith) tt tt tt tt
+      (λ x e. or-less (reads p x) false (any_reads ps x) e (λ f. absurd (both_ways false refl f)))
 
   pub alone-shadow : IsShadow p.shadow m1
   alone-shadow = beside-shadow pool pool1 p ps [] m m1 h o gone
@@ -66,10 +70,12 @@ module _ (pool pool1 pool2 : Pool) (p : Pair) (ps ps' : List Pair) (m m1 m2 : Li
   pub alone-owns : Owns pool1 m1 (held p.shadow m1)
   alone-owns = present-owns pool1 pool1 p [] m1 m1 alone alone-owned
 
-  module _ (e : IsEmpty p.shadow m2) (w : Moves pool1 pool2 m1 m2 (held p.shadow m1) (held p.shadow m2)) (p' : Pair) (q : p' ≡ emptied_pair p) where
+  module _ (e : IsEmpty p.shadow m2) (w : Moves pool1 pool2 m1 m2 (held p.shadow m1) (held p.shadow m2)) (p' : Pair)
+      (q : p' ≡ emptied_pair p) where
     bare : IsRoots (emptied_pair p ∷ []) m2
     bare =
-        roots-shadow p (emptied_pair p) [] m2 (move-roots pool1 pool2 p [] m1 m2 alone alone-owned e.shadow w (bars-empty (any_reads (p ∷ [])) p m2 e)) refl
+        roots-shadow p (emptied_pair p) [] m2
+        (move-roots pool1 pool2 p [] m1 m2 alone alone-owned e.shadow w (bars-empty (any_reads (p ∷ [])) p m2 e)) refl
         (no-length) (λ x f. absurd (both_ways (any_reads (emptied_pair p ∷ []) x) (unread p x) f))
 
     lists : (x : Pair) (xs : List Pair) → x ≡ emptied_pair p → xs ≡ [] → x ∷ xs ≡ emptied_pair p ∷ []
@@ -91,7 +97,8 @@ module _ (pool pool1 pool2 : Pool) (p : Pair) (ps ps' : List Pair) (m m1 m2 : Li
     pub dropped-two : length (frames_of (p' ∷ ps') m2) ≡ 2
     dropped-two =
         ap (λ (xs : List Pair). length (frames_of xs m2)) (lists p' ps' q none)
-        ∙ ap (λ (fs : List ℕ). length fs) (frames-cons (emptied_pair p) [] m2 ∙ ap (λ (fs : List ℕ). held p.shadow m2 ++ fs) (none-frames m2))
+        ∙ ap (λ (fs : List ℕ). length fs)
+        (frames-cons (emptied_pair p) [] m2 ∙ ap (λ (fs : List ℕ). held p.shadow m2 ++ fs) (none-frames m2))
         ∙ ap (λ (fs : List ℕ). length (fs ++ [])) e.frames
 
     pub dropped-write_protected : ArePart (tables_of (p' ∷ ps')) (tables_of (p ∷ ps))
@@ -128,15 +135,20 @@ spoilt-there true p frame e = reads-there p.tables frame false (read-there p.tab
 abbrev pub unspoilt : ℕ → List Pair → List Pair
 unspoilt frame ps = filter (λ q. not (reads q frame)) ps
 
-module _ (pool pool1 : Pool) (p p' : Pair) (ps ps' : List Pair) (m m1 : List ℕ) (frame : ℕ) (h : IsRoots (p ∷ ps) m) (o : Owns pool m (frames_of (p ∷ ps) m))
-    (rest : ps' ≡ unspoilt frame ps) (kept : AreKept ps' m m1) (v : Moves pool pool1 m m1 (frames_of ps m) (frames_of ps' m1)) (q : p' ≡ spoilt (reads p frame) p frame) where
+module _ (pool pool1 : Pool) (p p' : Pair) (ps ps' : List Pair) (m m1 : List ℕ) (frame : ℕ) (h : IsRoots (p ∷ ps) m)
+    (o : Owns pool m (frames_of (p ∷ ps) m))
+    (rest : ps' ≡ unspoilt frame ps) (kept : AreKept ps' m m1) (v : Moves pool pool1 m m1 (frames_of ps m) (frames_of ps' m1))
+    (q : p' ≡ spoilt (reads p frame) p frame) where
   pub spoilt-same : p'.shadow ≡ p.shadow
   spoilt-same = ap (λ (x : Pair). x.shadow) q ∙ spoilt-shadow (reads p frame) p frame
 
   pub spoilt-fewer : (x : ℕ) → any_reads (p' ∷ ps') x ≡ true → any_reads (p ∷ ps) x ≡ true
   spoilt-fewer x e =
-      let f : any_reads (spoilt (reads p frame) p frame ∷ unspoilt frame ps) x ≡ true = sym (ap (λ (y : Pair). any_reads (y ∷ ps') x) q ∙ ap (λ (ys : List Pair). reads (spoilt (reads p frame) p frame) x || any_reads ys x) rest) ∙ e in
-      either_less (reads (spoilt (reads p frame) p frame) x) (any_reads (unspoilt frame ps) x) (reads p x) (any_reads ps x) (spoilt-reads (reads p frame) p frame x) (any-filter (λ y. not (reads y frame)) ps x) f
+      let f : any_reads (spoilt (reads p frame) p frame ∷ unspoilt frame ps) x ≡ true =
+      sym (ap (λ (y : Pair). any_reads (y ∷ ps') x) q ∙ ap (λ (ys : List Pair). reads (spoilt (reads p frame) p frame) x || any_reads ys x)
+      rest) ∙ e in
+      either_less (reads (spoilt (reads p frame) p frame) x) (any_reads (unspoilt frame ps) x) (reads p x) (any_reads ps x)
+      (spoilt-reads (reads p frame) p frame x) (any-filter (λ y. not (reads y frame)) ps x) f
 
   pub spoilt-roots : IsRoots (p' ∷ ps') m1
   spoilt-roots =
@@ -145,7 +157,9 @@ module _ (pool pool1 : Pool) (p p' : Pair) (ps ps' : List Pair) (m m1 : List ℕ
       (subst (λ (xs : List Pair). length xs ≤ length ps) (sym rest) (few-filter (λ y. not (reads y frame)) ps))
       (kept-shadows ps' m m1 kept)
       (subst AreSized (sym rest) (sized-filter (λ y. not (reads y frame)) ps h.sized.1))
-      (kept-barred (any_reads (p ∷ ps)) ps' m m1 kept (subst (λ (xs : List Pair). AllBarWrites (any_reads (p ∷ ps)) xs m) (sym rest) (barred-filter (any_reads (p ∷ ps)) (λ y. not (reads y frame)) ps m h.barred.1)))
+      (kept-barred (any_reads (p ∷ ps)) ps' m m1 kept
+      (subst (λ (xs : List Pair). AllBarWrites (any_reads (p ∷ ps)) xs m) (sym rest)
+      (barred-filter (any_reads (p ∷ ps)) (λ y. not (reads y frame)) ps m h.barred.1)))
       (subst AreUnmarked (sym rest) (unmarked-filter (λ y. not (reads y frame)) ps h.unmarked))
       spoilt-fewer
 
@@ -170,7 +184,8 @@ module _ (pool pool1 : Pool) (p p' : Pair) (ps ps' : List Pair) (m m1 : List ℕ
       ∙ ap (λ (ys : List Pair). any_reads ys frame) rest ∙ none-reads ps frame
 
   pub spoilt-moves : Moves pool pool1 m m1 (frames_of (p ∷ ps) m) (frames_of (p' ∷ ps') m1)
-  spoilt-moves = subst (Moves pool pool1 m m1 (frames_of (p ∷ ps) m)) (sym (frames-shadow p p' ps' m1 spoilt-same)) (beside-moves pool pool1 p ps ps' m m1 h o v)
+  spoilt-moves = subst (Moves pool pool1 m m1 (frames_of (p ∷ ps) m)) (sym (frames-shadow p p' ps' m1 spoilt-same))
+      (beside-moves pool pool1 p ps ps' m m1 h o v)
 
   pub spoilt-owns : Owns pool1 m1 (frames_of (p' ∷ ps') m1)
   spoilt-owns = Owns-moves pool pool1 m m1 (frames_of (p ∷ ps) m) (frames_of (p' ∷ ps') m1) o spoilt-moves

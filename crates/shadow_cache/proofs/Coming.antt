@@ -18,9 +18,17 @@ use Rattle.std.proofs.lemmas.Option.{same_Some, none-some}
 
 -- ---- some of the pairs
 
-pub sub-roots : (ps qs : List Pair) (m : List ℕ) → length qs ≤ 8 → Holds m (frames_of qs m) → AreShadows qs m → AreSized qs → AllBarWrites (any_reads ps) qs m → ((x : ℕ) → any_reads qs x ≡ true → any_reads ps x ≡ true) → OthersUnmarked qs → IsRoots qs m
+pub sub-roots : (ps qs : List Pair) (m : List ℕ) → length qs ≤ 8 → Holds m (frames_of qs m) → AreShadows qs m → AreSized qs
+    → AllBarWrites (any_reads ps) qs m → ((x : ℕ) → any_reads qs x ≡ true → any_reads ps x ≡ true) → OthersUnmarked qs → IsRoots qs m
 sub-roots ps qs m few holds shadows sized barred i unmarked =
-    record { few = few; holds = holds; shadows = shadows; sized = sized; barred = all-fewer (any_reads ps) (any_reads qs) qs m i barred; unmarked = unmarked }
+    record {
+      few = few;
+      holds = holds;
+      shadows = shadows;
+      sized = sized;
+      barred = all-fewer (any_reads ps) (any_reads qs) qs m i barred;
+      unmarked = unmarked;
+    }
 
 pub sized-remove : (ps : List Pair) (i : ℕ) → AreSized ps → AreSized (remove ps i)
 sized-remove [] zero h = tt
@@ -55,7 +63,8 @@ barred-remove test [] (suc i) m h = tt
 barred-remove test (q ∷ qs) zero m h = h.1
 barred-remove test (q ∷ qs) (suc i) m h = (h.0, barred-remove test qs i m h.1)
 
-pub barred-at : (test : ℕ → Bool) (ps : List Pair) (i : ℕ) (p : Pair) (m : List ℕ) → slice_get ps i ≡ Some p → AllBarWrites test ps m → BarsWrites test (slot_at p.shadow m)
+pub barred-at : (test : ℕ → Bool) (ps : List Pair) (i : ℕ) (p : Pair) (m : List ℕ) → slice_get ps i ≡ Some p → AllBarWrites test ps m
+    → BarsWrites test (slot_at p.shadow m)
 barred-at test [] i p m e h = absurd cc
 barred-at test (q ∷ qs) zero p m e h = subst (λ (x : Pair). BarsWrites test (slot_at x.shadow m)) (same_Some q p e) h.0
 barred-at test (q ∷ qs) (suc i) p m e h = barred-at test qs i p m e h.1
@@ -93,10 +102,12 @@ module _ (ps : List Pair) (i : ℕ) (p : Pair) (m : List ℕ) (here : slice_get 
         once = λ f. (let c = front-counts f in let o = h.holds.once f in omega (arith, c, o));
       })
       (shadows-at ps i p m here h.shadows, shadows-remove ps i m h.shadows) (sized-at ps i p here h.sized, sized-remove ps i h.sized)
-      (barred-at (any_reads ps) ps i p m here h.barred, barred-remove (any_reads ps) ps i m h.barred) front-any (unmarked-remove ps i unmarked)
+      (barred-at (any_reads ps) ps i p m here h.barred, barred-remove (any_reads ps) ps i m h.barred) front-any
+      (unmarked-remove ps i unmarked)
 
   pub front-moves : (pool : Pool) → Owns pool m (frames_of ps m) → Moves pool pool m m (frames_of ps m) (frames_of (p ∷ remove ps i) m)
-  front-moves pool o = Moves-counts pool pool m m (frames_of ps m) (frames_of ps m) (frames_of (p ∷ remove ps i) m) front-counts (Moves-refl pool m (frames_of ps m) o.stands)
+  front-moves pool o = Moves-counts pool pool m m (frames_of ps m) (frames_of ps m) (frames_of (p ∷ remove ps i) m) front-counts
+      (Moves-refl pool m (frames_of ps m) o.stands)
 
 -- ---- the last of 8 leaves
 
@@ -105,7 +116,8 @@ last-leaves ps l = ap (λ (qs : List Pair). take 7 ps ++ qs) (drop_all 8 ps l) �
 
 -- ---- a new one
 
-module _ (pool pool' : Pool) (q : Pair) (ps : List Pair) (m m' : List ℕ) (h : IsRoots ps m) (o : Owns pool m (frames_of ps m)) (v : Moves pool pool' m m' [] (held q.shadow m'))
+module _ (pool pool' : Pool) (q : Pair) (ps : List Pair) (m m' : List ℕ) (h : IsRoots ps m) (o : Owns pool m (frames_of ps m))
+    (v : Moves pool pool' m m' [] (held q.shadow m'))
     (e : IsEmpty q.shadow m') (t : q.tables ≡ no_frames) (few : length ps ≤ 7) where
   same : SameIn (frames_of ps m) m m'
   same = SameIn-beside pool pool' m m' [] (held q.shadow m') (frames_of ps m) o v
@@ -117,7 +129,8 @@ module _ (pool pool' : Pool) (q : Pair) (ps : List Pair) (m m' : List ℕ) (h : 
   open-frames = frames-cons q ps m' ∙ ap (λ (fs : List ℕ). held q.shadow m' ++ fs) (kept-frames ps m m' open-kept)
 
   pub open-moves : Moves pool pool' m m' (frames_of ps m) (frames_of (q ∷ ps) m')
-  open-moves = subst (Moves pool pool' m m' (frames_of ps m)) (sym open-frames) (Moves-beside pool pool' m m' [] (held q.shadow m') (frames_of ps m) v)
+  open-moves = subst (Moves pool pool' m m' (frames_of ps m)) (sym open-frames)
+      (Moves-beside pool pool' m m' [] (held q.shadow m') (frames_of ps m) v)
 
   pub open-roots : AreUnmarked ps → IsRoots (q ∷ ps) m'
   open-roots unmarked =
@@ -131,7 +144,8 @@ module _ (pool pool' : Pool) (q : Pair) (ps : List Pair) (m m' : List ℕ) (h : 
 
 -- ---- what is kept all the while
 
-pub kept-front : (ps : List Pair) (i : ℕ) (p : Pair) (m m' : List ℕ) → slice_get ps i ≡ Some p → AreKept ps m m' → AreKept (p ∷ remove ps i) m m'
+pub kept-front : (ps : List Pair) (i : ℕ) (p : Pair) (m m' : List ℕ) → slice_get ps i ≡ Some p → AreKept ps m m'
+    → AreKept (p ∷ remove ps i) m m'
 kept-front [] i p m m' e k = absurd cc
 kept-front (q ∷ qs) zero p m m' e k = subst (λ (x : Pair). AreKept (x ∷ qs) m m') (same_Some q p e) k
 kept-front (q ∷ qs) (suc i) p m m' e k = let r = kept-front qs i p m m' e k.3 in (r.0, r.1, r.2, (k.0, k.1, k.2, r.3, k.4), r.4)
@@ -141,7 +155,9 @@ kept-take zero ps m m' k = tt
 kept-take (suc n) [] m m' k = tt
 kept-take (suc n) (p ∷ ps) m m' k = (k.0, k.1, k.2, kept-take n ps m m' k.3, k.4)
 
-comes-by : (o : Option ℕ) (ps ps' : List Pair) (m m1 m2 : List ℕ) (cr3 : ℕ) → AreKept ps m m1 → MatchOption o (Opens ps ps' m1 m2 cr3) (λ i. ComesBack ps ps' m1 m2 i) → MatchOption o (Opens ps ps' m m2 cr3) (λ i. ComesBack ps ps' m m2 i)
+comes-by : (o : Option ℕ) (ps ps' : List Pair) (m m1 m2 : List ℕ) (cr3 : ℕ) → AreKept ps m m1
+    → MatchOption o (Opens ps ps' m1 m2 cr3) (λ i. ComesBack ps ps' m1 m2 i)
+    → MatchOption o (Opens ps ps' m m2 cr3) (λ i. ComesBack ps ps' m m2 i)
 comes-by None ps ps' m m1 m2 cr3 k x =
     record { pair = x.pair; fresh = x.fresh; front = x.front; kept = kept-trans (take 7 ps) m m1 m2 (kept-take 7 ps m m1 k) x.kept }
 comes-by (Some i) ps ps' m m1 m2 cr3 k x =
@@ -149,7 +165,8 @@ comes-by (Some i) ps ps' m m1 m2 cr3 k x =
       pair = x.pair;
       here = x.here;
       front = x.front;
-      kept = kept-trans ps' m m1 m2 (subst (λ (qs : List Pair). AreKept qs m m1) (sym x.front) (kept-front ps i x.pair m m1 x.here k)) x.kept;
+      kept =
+          kept-trans ps' m m1 m2 (subst (λ (qs : List Pair). AreKept qs m m1) (sym x.front) (kept-front ps i x.pair m m1 x.here k)) x.kept;
     }
 
 pub comes-after : (ps ps' : List Pair) (m m1 m2 : List ℕ) (cr3 : ℕ) → AreKept ps m m1 → Comes ps ps' m1 m2 cr3 → Comes ps ps' m m2 cr3
@@ -158,12 +175,15 @@ comes-after ps ps' m m1 m2 cr3 k x = comes-by (place_of cr3 ps) ps ps' m m1 m2 c
 -- ---- the present value is loaded again
 
 first-place : (p : Pair) (ps : List Pair) (cr3 : ℕ) → p.cr3 ≡ cr3 → place_of cr3 (p ∷ ps) ≡ Some 0
-first-place p ps cr3 e = elim (eqb_tells p.cr3 cr3) [ inl t ↦ ap (λ b. cond b (Some 0) (one_later (place_of cr3 ps))) t.0 | inr t ↦ absurd (t.1 e) ]
+first-place p ps cr3 e =
+    elim (eqb_tells p.cr3 cr3) [ inl t ↦ ap (λ b. cond b (Some 0) (one_later (place_of cr3 ps))) t.0 | inr t ↦ absurd (t.1 e) ]
 
-pub stays-here : (p : Pair) (ps : List Pair) (m : List ℕ) (cr3 : ℕ) → AreShadows (p ∷ ps) m → p.cr3 ≡ cr3 → p.stale ≡ false → IsSwitched (p ∷ ps) (p ∷ ps) m m cr3
+pub stays-here : (p : Pair) (ps : List Pair) (m : List ℕ) (cr3 : ℕ) → AreShadows (p ∷ ps) m → p.cr3 ≡ cr3 → p.stale ≡ false
+    → IsSwitched (p ∷ ps) (p ∷ ps) m m cr3
 stays-here p ps m cr3 h e u =
     let back : ComesBack (p ∷ ps) (p ∷ ps) m m 0 = record { pair = p; here = refl; front = refl; kept = kept-refl (p ∷ ps) m h } in
     let comes : Comes (p ∷ ps) (p ∷ ps) m m cr3 =
-    subst (λ o. MatchOption o (Opens (p ∷ ps) (p ∷ ps) m m cr3) (λ i. ComesBack (p ∷ ps) (p ∷ ps) m m i)) (sym (first-place p ps cr3 e)) back
+    subst (λ o. MatchOption o (Opens (p ∷ ps) (p ∷ ps) m m cr3) (λ i. ComesBack (p ∷ ps) (p ∷ ps) m m i))
+    (sym (first-place p ps cr3 e)) back
     in
     subst (λ b. Comes (cond b ps (p ∷ ps)) (p ∷ ps) m m cr3) (sym u) comes

@@ -79,7 +79,8 @@ stays-was : (p : Past) (b : Bool) (q : Past) (rest : List Past) → q ≡ p → 
 stays-was p true q rest s n = here-was p q rest s
 stays-was p false q rest s n = inl n
 
-other-was : (p : Past) (b : Bool) (q : Past) (rest : List Past) → eqb q.value p.value ≡ false → AsWas p rest → AsWas p (cond b (q ∷ rest) rest)
+other-was : (p : Past) (b : Bool) (q : Past) (rest : List Past) → eqb q.value p.value ≡ false → AsWas p rest
+    → AsWas p (cond b (q ∷ rest) rest)
 other-was p true q rest n w = cons-was p q rest n w
 other-was p false q rest n w = w
 
@@ -87,16 +88,19 @@ filter-was : (p : Past) (t : Past → Bool) (qs : List Past) → AreApart qs →
 filter-was p t [] a w = w
 filter-was p t (q ∷ qs) a w =
     elim (eqb_tells q.value p.value) [
-      | inl s ↦ stays-was p (t q) q (filter t qs) (first-was p q qs s.1 w) (filter-none t qs p.value (ap (λ x. has_value x qs) (sym s.1) ∙ a.0))
+      | inl s ↦ stays-was p (t q) q (filter t qs) (first-was p q qs s.1 w)
+          (filter-none t qs p.value (ap (λ x. has_value x qs) (sym s.1) ∙ a.0))
       | inr s ↦ other-was p (t q) q (filter t qs) s.0 (filter-was p t qs a.1 (rest-was p q qs s.0 w))
     ]
 
-gone-by : (b : Bool) (v : ℕ) (q : Past) (rest : List Past) → eqb q.value v ≡ false → has_value v rest ≡ false → has_value v (cond b (q ∷ rest) rest) ≡ false
+gone-by : (b : Bool) (v : ℕ) (q : Past) (rest : List Past) → eqb q.value v ≡ false → has_value v rest ≡ false
+    → has_value v (cond b (q ∷ rest) rest) ≡ false
 gone-by true v q rest n e = or_from (eqb q.value v) (has_value v rest) n e
 gone-by false v q rest n e = e
 
 -- where the test is false of it, it goes
-pub filter-gone : (p : Past) (t : Past → Bool) (qs : List Past) → t p ≡ false → AreApart qs → AsWas p qs → has_value p.value (filter t qs) ≡ false
+pub filter-gone : (p : Past) (t : Past → Bool) (qs : List Past) → t p ≡ false → AreApart qs → AsWas p qs
+    → has_value p.value (filter t qs) ≡ false
 filter-gone p t [] f a w = refl
 filter-gone p t (q ∷ qs) f a w =
     elim (eqb_tells q.value p.value) [
@@ -115,8 +119,10 @@ record Beside (p : Past) (ps : List Past) : Type 0 where
   other : eqb first.value p.value ≡ false
   was : AsWas p more
 
-front-beside : (p : Past) (v : ℕ) (ps : List Past) (o : Option Past) → p.value ≢ v → of_value v ps ≡ o → AsWas p ps → Beside p (with_front v ps o)
-front-beside p v ps None n e w = record { first = begun v; more = take 7 ps; place = refl; other = ne_eqb v p.value (λ s. n (sym s)); was = take-was p 7 ps w }
+front-beside : (p : Past) (v : ℕ) (ps : List Past) (o : Option Past) → p.value ≢ v → of_value v ps ≡ o → AsWas p ps
+    → Beside p (with_front v ps o)
+front-beside p v ps None n e w =
+    record { first = begun v; more = take 7 ps; place = refl; other = ne_eqb v p.value (λ s. n (sym s)); was = take-was p 7 ps w }
 front-beside p v ps (Some q) n e w =
     record {
       first = q;
@@ -134,7 +140,8 @@ switch-beside : (p : Past) (n v : ℕ) (ps : List Past) → p.value ≢ v → Be
 switch-beside p n v ps o b =
     subst (λ (xs : List Past). Beside p (after_switch v (unmarked xs))) (sym b.place)
     (let xs : List Past = unmarked (b.first ∷ b.more) in
-    front-beside p v xs (of_value v xs) o refl (unmarked-was p b.first.stale b.first b.more b.was (cons-was p b.first b.more b.other b.was)))
+    front-beside p v xs (of_value v xs) o refl
+    (unmarked-was p b.first.stale b.first b.more b.was (cons-was p b.first b.more b.other b.was)))
 
 -- another in the place of the present one, of its value
 beside-instead : (p : Past) (ps : List Past) (b : Beside p ps) (q : Past) → q.value ≡ b.first.value → Beside p (q ∷ b.more)
@@ -146,16 +153,26 @@ written-beside p n frame ps a b =
     let q : Past = marked_at frame b.first in
     let e : q.value ≡ b.first.value = stale-value (is_among frame b.first.tables) frame b.first in
     subst (λ (xs : List Past). Beside p (after_shared n (Written frame) xs)) (sym b.place)
-    (record { first = q; more = filter t b.more; place = refl; other = ap (λ x. eqb x p.value) e ∙ b.other; was = filter-was p t b.more (subst AreApart b.place a).1 b.was })
+    (record {
+      first = q;
+      more = filter t b.more;
+      place = refl;
+      other = ap (λ x. eqb x p.value) e ∙ b.other;
+      was = filter-was p t b.more (subst AreApart b.place a).1 b.was;
+    })
 
 shared-beside : (p : Past) (n : ℕ) (c : Call) (ps : List Past) → AreApart ps → Beside p ps → Beside p (after_shared n c ps)
-shared-beside p n (Fill side entry wp) ps a b = subst (λ (xs : List Past). Beside p (after_shared n (Fill side entry wp) xs)) (sym b.place) (beside-instead p ps b _ refl)
-shared-beside p n (DropPage page) ps a b = subst (λ (xs : List Past). Beside p (after_shared n (DropPage page) xs)) (sym b.place) (beside-instead p ps b _ refl)
-shared-beside p n (DropDir index) ps a b = subst (λ (xs : List Past). Beside p (after_shared n (DropDir index) xs)) (sym b.place) (beside-instead p ps b _ refl)
+shared-beside p n (Fill side entry wp) ps a b =
+    subst (λ (xs : List Past). Beside p (after_shared n (Fill side entry wp) xs)) (sym b.place) (beside-instead p ps b _ refl)
+shared-beside p n (DropPage page) ps a b =
+    subst (λ (xs : List Past). Beside p (after_shared n (DropPage page) xs)) (sym b.place) (beside-instead p ps b _ refl)
+shared-beside p n (DropDir index) ps a b =
+    subst (λ (xs : List Past). Beside p (after_shared n (DropDir index) xs)) (sym b.place) (beside-instead p ps b _ refl)
 shared-beside p n DropAll ps a b =
     subst (λ (xs : List Past). Beside p (after_shared n DropAll xs)) (sym b.place)
     (record { first = begun b.first.value; more = []; place = refl; other = b.other; was = inl refl })
-shared-beside p n (Note frame) ps a b = subst (λ (xs : List Past). Beside p (after_shared n (Note frame) xs)) (sym b.place) (beside-instead p ps b _ refl)
+shared-beside p n (Note frame) ps a b =
+    subst (λ (xs : List Past). Beside p (after_shared n (Note frame) xs)) (sym b.place) (beside-instead p ps b _ refl)
 shared-beside p n (Written frame) ps a b = written-beside p n frame ps a b
 
 -- ---- gone
@@ -194,12 +211,15 @@ shared-gone w n (Written frame) (p ∷ ps) g =
 
 calls-gone : (w n : ℕ) (cs : List RootsCall) (ps : List Past) → IsNotLoaded w cs → Gone w ps → Gone w (after_calls n cs ps)
 calls-gone w n [] ps l g = subst (Gone w) (sym (calls-none n ps)) g
-calls-gone w n (Shared c ∷ cs) ps l g = subst (Gone w) (sym (calls-cons n (Shared c) cs ps)) (calls-gone w (suc n) cs (after_shared n c ps) l (shared-gone w n c ps g))
-calls-gone w n (Switch v ∷ cs) ps l g = subst (Gone w) (sym (calls-cons n (Switch v) cs ps)) (calls-gone w (suc n) cs (after_call n (Switch v) ps) l.1 (switch-gone w n v ps l.0 g))
+calls-gone w n (Shared c ∷ cs) ps l g =
+    subst (Gone w) (sym (calls-cons n (Shared c) cs ps)) (calls-gone w (suc n) cs (after_shared n c ps) l (shared-gone w n c ps g))
+calls-gone w n (Switch v ∷ cs) ps l g = subst (Gone w) (sym (calls-cons n (Switch v) cs ps))
+    (calls-gone w (suc n) cs (after_call n (Switch v) ps) l.1 (switch-gone w n v ps l.0 g))
 
 -- ---- the causes
 
-written-gone : (p : Past) (n frame : ℕ) (ps : List Past) → is_among frame p.tables ≡ true → AreApart ps → Beside p ps → Gone p.value (after_shared n (Written frame) ps)
+written-gone : (p : Past) (n frame : ℕ) (ps : List Past) → is_among frame p.tables ≡ true → AreApart ps → Beside p ps
+    → Gone p.value (after_shared n (Written frame) ps)
 written-gone p n frame ps i a b =
     let t : Past → Bool = λ q. not (is_among frame q.tables) in
     subst (λ (xs : List Past). Gone p.value (after_shared n (Written frame) xs)) (sym b.place)
@@ -207,17 +227,20 @@ written-gone p n frame ps i a b =
     (ap (λ x. eqb x p.value) (stale-value (is_among frame b.first.tables) frame b.first) ∙ b.other)
     (filter-gone p t b.more (ap not i) (subst AreApart b.place a).1 b.was))
 
-cause-gone : (p : Past) (n : ℕ) (c : RootsCall) (ps : List Past) → IsCause p c → AreApart ps → Beside p ps → Gone p.value (after_call n c ps)
+cause-gone : (p : Past) (n : ℕ) (c : RootsCall) (ps : List Past) → IsCause p c → AreApart ps → Beside p ps
+    → Gone p.value (after_call n c ps)
 cause-gone p n (Switch v) ps i a b = absurd i
 cause-gone p n (Shared (Fill side entry wp)) ps i a b = absurd i
 cause-gone p n (Shared (DropPage page)) ps i a b = absurd i
 cause-gone p n (Shared (DropDir index)) ps i a b = absurd i
 cause-gone p n (Shared DropAll) ps i a b =
-    subst (λ (xs : List Past). Gone p.value (after_shared n DropAll xs)) (sym b.place) (or_from (eqb b.first.value p.value) false b.other refl)
+    subst (λ (xs : List Past). Gone p.value (after_shared n DropAll xs)) (sym b.place)
+    (or_from (eqb b.first.value p.value) false b.other refl)
 cause-gone p n (Shared (Note frame)) ps i a b = absurd i
 cause-gone p n (Shared (Written frame)) ps i a b = written-gone p n frame ps i a b
 
-away-gone : (p : Past) (n : ℕ) (cs : List RootsCall) (ps : List Past) → IsNotLoaded p.value cs → HasCause p cs → AreApart ps → Beside p ps → Gone p.value (after_calls n cs ps)
+away-gone : (p : Past) (n : ℕ) (cs : List RootsCall) (ps : List Past) → IsNotLoaded p.value cs → HasCause p cs → AreApart ps → Beside p ps
+    → Gone p.value (after_calls n cs ps)
 away-gone p n [] ps l h a b = absurd h
 away-gone p n (Shared c ∷ cs) ps l h a b =
     subst (Gone p.value) (sym (calls-cons n (Shared c) cs ps))
@@ -240,7 +263,8 @@ begins-by v ps o e = subst (λ x. IsPresent (begun v) (with_front v ps x)) (sym 
 gone-begins : (v n : ℕ) (ps : List Past) → Gone v ps → IsPresent (begun v) (after_call n (Switch v) ps)
 gone-begins v n ps g = begins-by v (unmarked ps) (of_value v (unmarked ps)) (none-of v (unmarked ps) (unmarked-gone v ps g))
 
-module _ (value other : ℕ) (before away : List RootsCall) (p : Past) (others : List Past) (e : pairs_after value before ≡ p ∷ others) (l : IsNotLoaded p.value (Switch other ∷ away)) where
+module _ (value other : ℕ) (before away : List RootsCall) (p : Past) (others : List Past) (e : pairs_after value before ≡ p ∷ others)
+    (l : IsNotLoaded p.value (Switch other ∷ away)) where
   abbrev n : ℕ
   n = 0 + length before
 
@@ -251,7 +275,8 @@ module _ (value other : ℕ) (before away : List RootsCall) (p : Past) (others :
   self-first = here-was p p others refl
 
   left : Gone p.value (after_call n (Switch other) (p ∷ others)) → Gone p.value (after_calls n (Switch other ∷ away) (p ∷ others))
-  left g = subst (Gone p.value) (sym (calls-cons n (Switch other) away (p ∷ others))) (calls-gone p.value (suc n) away (after_call n (Switch other) (p ∷ others)) l.1 g)
+  left g = subst (Gone p.value) (sym (calls-cons n (Switch other) away (p ∷ others)))
+      (calls-gone p.value (suc n) away (after_call n (Switch other) (p ∷ others)) l.1 g)
 
   stale-goes : p.stale ≡ true → Gone p.value (after_calls n (Switch other ∷ away) (p ∷ others))
   stale-goes m =
@@ -272,10 +297,12 @@ module _ (value other : ℕ) (before away : List RootsCall) (p : Past) (others :
       subst (Gone p.value) (sym (pairs-join value before (Switch other ∷ away) ∙ ap (after_calls n (Switch other ∷ away)) e))
       (elim h [ inl m ↦ stale-goes m | inr k ↦ cause-goes k ])
 
-  back-new : (p.stale ≡ true) ⊎ HasCause p away → IsPresent (begun p.value) (pairs_after value (before ++ Switch other ∷ away ++ Switch p.value ∷ []))
+  back-new : (p.stale ≡ true) ⊎ HasCause p away
+      → IsPresent (begun p.value) (pairs_after value (before ++ Switch other ∷ away ++ Switch p.value ∷ []))
   back-new h =
       let cs = before ++ Switch other ∷ away in
-      subst (IsPresent (begun p.value)) (sym (pairs-more value cs (Switch p.value))) (gone-begins p.value (length cs) (pairs_after value cs) (goes h))
+      subst (IsPresent (begun p.value)) (sym (pairs-more value cs (Switch p.value)))
+      (gone-begins p.value (length cs) (pairs_after value cs) (goes h))
 
 pub pairs-leave : PairsLeave
 pairs-leave value other before away p i l h = back-new value other before away p i.others i.first l h

@@ -29,7 +29,8 @@ some-later : (o : Option Pair) (ps : List Pair) (i : ℕ) → IsSome o → slice
 some-later None ps i h = absurd cc
 some-later (Some p) ps i h = refl
 
-pub listed-at : (slab : Slab Pair) (keys : List ℕ) (i : ℕ) → AreThere slab keys → i < length keys → slice_get (listed slab keys) i ≡ get slab (get_or keys i 0)
+pub listed-at : (slab : Slab Pair) (keys : List ℕ) (i : ℕ) → AreThere slab keys → i < length keys
+    → slice_get (listed slab keys) i ≡ get slab (get_or keys i 0)
 listed-at slab [] i h l = absurd (omega (arith, l))
 listed-at slab (k ∷ ks) zero h l = some-first (get slab k) (listed slab ks) h.0
 listed-at slab (k ∷ ks) (suc i) h l = some-later (get slab k) (listed slab ks) i h.0 ∙ listed-at slab ks i h.1 (omega (arith, l))
@@ -38,7 +39,10 @@ listed-at slab (k ∷ ks) (suc i) h l = some-later (get slab k) (listed slab ks)
 
 pub not-in : (slab : Slab Pair) (key : ℕ) (keys : List ℕ) → get slab key ≡ None → AreThere slab keys → IsNotIn key keys
 not-in slab key [] e h = tt
-not-in slab key (k ∷ ks) e h = ((λ q. absurd (let x : IsSome (get slab key) = subst (λ y. IsSome (get slab y)) (sym q) h.0 in let y = subst IsSome e x in cc)), not-in slab key ks e h.1)
+not-in slab key (k ∷ ks) e h = (
+  (λ q. absurd (let x : IsSome (get slab key) = subst (λ y. IsSome (get slab y)) (sym q) h.0 in let y = subst IsSome e x in cc)),
+  not-in slab key ks e h.1,
+)
 
 module _ (old new : Slab Pair) (key : ℕ) (slot : Option Pair) (u : Updates old new key slot) where
   pub listed-same : (keys : List ℕ) → IsNotIn key keys → listed new keys ≡ listed old keys
@@ -61,13 +65,16 @@ remove-first : (o : Option Pair) (ps qs : List Pair) → IsSome o → qs ≡ ps 
 remove-first None ps qs h e = absurd cc
 remove-first (Some q) ps qs h e = e
 
-remove-later : (o : Option Pair) (ps qs : List Pair) (i : ℕ) → IsSome o → qs ≡ remove ps i → with_some o qs ≡ remove (with_some o ps) (suc i)
+remove-later : (o : Option Pair) (ps qs : List Pair) (i : ℕ) → IsSome o → qs ≡ remove ps i
+    → with_some o qs ≡ remove (with_some o ps) (suc i)
 remove-later None ps qs i h e = absurd cc
 remove-later (Some q) ps qs i h e = ap (λ (xs : List Pair). q ∷ xs) e
 
-pub listed-remove : (old new : Slab Pair) (keys : List ℕ) (i : ℕ) → AreThere old keys → AreDistinct keys → i < length keys → Updates old new (get_or keys i 0) None → listed new (remove keys i) ≡ remove (listed old keys) i
+pub listed-remove : (old new : Slab Pair) (keys : List ℕ) (i : ℕ) → AreThere old keys → AreDistinct keys → i < length keys
+    → Updates old new (get_or keys i 0) None → listed new (remove keys i) ≡ remove (listed old keys) i
 listed-remove old new [] i h d l u = absurd (omega (arith, l))
-listed-remove old new (k ∷ ks) zero h d l u = remove-first (get old k) (listed old ks) (listed new ks) h.0 (listed-same old new k None u ks d.0)
+listed-remove old new (k ∷ ks) zero h d l u =
+    remove-first (get old k) (listed old ks) (listed new ks) h.0 (listed-same old new k None u ks d.0)
 listed-remove old new (k ∷ ks) (suc i) h d l u =
     ap (λ o. with_some o (listed new (remove ks i))) (u.others k (λ e. not-at ks k i d.0 (omega (arith, l)) (sym e)))
     ∙ remove-later (get old k) (listed old ks) (listed new (remove ks i)) i h.0 (listed-remove old new ks i h.1 d.1 (omega (arith, l)) u)
@@ -84,11 +91,14 @@ distinct-remove [] (suc i) d = tt
 distinct-remove (k ∷ ks) zero d = d.1
 distinct-remove (k ∷ ks) (suc i) d = (not-removed ks k i d.0, distinct-remove ks i d.1)
 
-pub there-remove : (old new : Slab Pair) (keys : List ℕ) (i : ℕ) → AreThere old keys → AreDistinct keys → i < length keys → Updates old new (get_or keys i 0) None → AreThere new (remove keys i)
+pub there-remove : (old new : Slab Pair) (keys : List ℕ) (i : ℕ) → AreThere old keys → AreDistinct keys → i < length keys
+    → Updates old new (get_or keys i 0) None → AreThere new (remove keys i)
 there-remove old new [] i h d l u = absurd (omega (arith, l))
 there-remove old new (k ∷ ks) zero h d l u = there-same old new k None u ks d.0 h.1
-there-remove old new (k ∷ ks) (suc i) h d l u =
-    (subst IsSome (sym (u.others k (λ e. not-at ks k i d.0 (omega (arith, l)) (sym e)))) h.0, there-remove old new ks i h.1 d.1 (omega (arith, l)) u)
+there-remove old new (k ∷ ks) (suc i) h d l u = (
+  subst IsSome (sym (u.others k (λ e. not-at ks k i d.0 (omega (arith, l)) (sym e)))) h.0,
+  there-remove old new ks i h.1 d.1 (omega (arith, l)) u,
+)
 
 -- ---- the calls
 
@@ -97,10 +107,14 @@ default [] i d e l = absurd (omega (arith, l))
 default (k ∷ ks) zero d e l = refl
 default (k ∷ ks) (suc i) d e l = default ks i d e (omega (arith, l))
 
-pub within : (slab : Slab Pair) (keys : List ℕ) (ps : List Pair) (i : ℕ) → IsKeyed slab keys → listed slab keys ≡ ps → i < length ps → i < length keys
-within slab keys ps i k e l = let n = listed-length slab keys k.there in let q = ap (λ (xs : List Pair). length xs) e in omega (arith, n, q, l)
+pub within : (slab : Slab Pair) (keys : List ℕ) (ps : List Pair) (i : ℕ) → IsKeyed slab keys → listed slab keys ≡ ps
+    → i < length ps → i < length keys
+within slab keys ps i k e l = let n =
+    listed-length slab keys k.there in let q = ap (λ (xs : List Pair). length xs) e in omega (arith, n, q, l)
 
-pub pushed : (old new : Slab Pair) (keys keys' : List ℕ) (key : ℕ) (p : Pair) → IsKeyed old keys → get old key ≡ None → Updates old new key (Some p) → slab_len new ≡ slab_len old + 1 → new.capacity ≡ old.capacity → keys' ≡ key ∷ keys → IsKeyed new keys' × (listed new keys' ≡ p ∷ listed old keys)
+pub pushed : (old new : Slab Pair) (keys keys' : List ℕ) (key : ℕ) (p : Pair) → IsKeyed old keys → get old key ≡ None
+    → Updates old new key (Some p) → slab_len new ≡ slab_len old + 1 → new.capacity ≡ old.capacity → keys' ≡ key ∷ keys → IsKeyed new keys'
+    × (listed new keys' ≡ p ∷ listed old keys)
 pushed old new keys keys' key p k v u n room e =
     let apart = not-in old key keys v k.there in
     let count = k.count in let r = k.room in
@@ -114,7 +128,9 @@ pushed old new keys keys' key p k v u n room e =
       ap (λ o. with_some o (listed new keys)) u.changed ∙ ap (λ (xs : List Pair). p ∷ xs) (listed-same old new key (Some p) u keys apart),
     )
 
-pub removed : (old new : Slab Pair) (keys keys' : List ℕ) (i key : ℕ) → IsKeyed old keys → i < length keys → key ≡ get_or keys i 0 → Updates old new key None → slab_len new + 1 ≡ slab_len old → new.capacity ≡ old.capacity → keys' ≡ remove keys i → length keys' + 1 ≡ length keys → IsKeyed new keys' × (listed new keys' ≡ remove (listed old keys) i)
+pub removed : (old new : Slab Pair) (keys keys' : List ℕ) (i key : ℕ) → IsKeyed old keys → i < length keys → key ≡ get_or keys i 0
+    → Updates old new key None → slab_len new + 1 ≡ slab_len old → new.capacity ≡ old.capacity → keys' ≡ remove keys i → length keys'
+    + 1 ≡ length keys → IsKeyed new keys' × (listed new keys' ≡ remove (listed old keys) i)
 removed old new keys keys' i key k l q v n room e m =
     let u : Updates old new (get_or keys i 0) None = subst (λ x. Updates old new x None) q v in
     let count = k.count in let r = k.room in (

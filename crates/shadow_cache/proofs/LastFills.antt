@@ -10,18 +10,21 @@ use Rattle.shadow_cache.specs.Past.{MadeCall}
 use Rattle.shadow_cache.specs.Replayed.{LastFill}
 use Rattle.shadow_cache.specs.Agreeing.{Filling, filling_after, last_from, last_of}
 
-last-append : (ds es : List MadeCall) (page : ℕ) (o : Option Filling) → last_from (ds ++ es) page o ≡ last_from es page (last_from ds page o)
+last-append : (ds es : List MadeCall) (page : ℕ) (o : Option Filling) → last_from (ds ++ es) page o ≡ last_from es page
+    (last_from ds page o)
 last-append [] es page o = refl
 last-append (d ∷ ds) es page o = last-append ds es page (filling_after d.call d.moment page o)
 
-pub last-more : (ds : List MadeCall) (moment : ℕ) (call : Call) (page : ℕ) → last_of (ds ++ record { moment = moment; call = call } ∷ []) page ≡ filling_after call moment page (last_of ds page)
+pub last-more : (ds : List MadeCall) (moment : ℕ) (call : Call) (page : ℕ) → last_of (ds ++ record { moment = moment; call = call } ∷ [])
+    page ≡ filling_after call moment page (last_of ds page)
 last-more ds moment call page = last-append ds (record { moment = moment; call = call } ∷ []) page None
 
 -- ---- calls that leave a page alone
 
 alone-one : (c : Call) (moment page : ℕ) (o : Option Filling) → (Concerns page c → ⊥) → filling_after c moment page o ≡ o
 alone-one (Fill side entry wp) moment page o n =
-    elim (eqb_tells page entry.page) [ inl t ↦ absurd (n t.1) | inr f ↦ ap (λ b. cond b (Some (record { moment = moment; side = side; entry = entry; wp = wp })) o) f.0 ]
+    elim (eqb_tells page entry.page)
+    [ inl t ↦ absurd (n t.1) | inr f ↦ ap (λ b. cond b (Some (record { moment = moment; side = side; entry = entry; wp = wp })) o) f.0 ]
 alone-one (DropPage dropped) moment page o n =
     elim (eqb_tells page dropped) [ inl t ↦ absurd (n t.1) | inr f ↦ ap (λ b. cond b None o) f.0 ]
 alone-one (DropDir index) moment page o n =
@@ -39,14 +42,16 @@ alone-all (d ∷ ds) page o h = ap (last_from ds page) (alone-one d.call d.momen
 
 -- ---- the last fill
 
-pub filling-there : (side : Side) (entry : Entry) (wp : Bool) (moment page : ℕ) (o : Option Filling) → page ≡ entry.page → filling_after (Fill side entry wp) moment page o ≡ Some (record { moment = moment; side = side; entry = entry; wp = wp })
+pub filling-there : (side : Side) (entry : Entry) (wp : Bool) (moment page : ℕ) (o : Option Filling) → page ≡ entry.page
+    → filling_after (Fill side entry wp) moment page o ≡ Some (record { moment = moment; side = side; entry = entry; wp = wp })
 filling-there side entry wp moment page o e =
     elim (eqb_tells page entry.page) [
       | inl t ↦ ap (λ b. cond b (Some (record { moment = moment; side = side; entry = entry; wp = wp })) o) t.0
       | inr f ↦ absurd (f.1 e)
     ]
 
-pub last-to : (ds : List MadeCall) (page : ℕ) (side : Side) (entry : Entry) (wp : Bool) (moment : ℕ) → LastFill ds page side entry wp moment → last_of ds page ≡ Some (record { moment = moment; side = side; entry = entry; wp = wp })
+pub last-to : (ds : List MadeCall) (page : ℕ) (side : Side) (entry : Entry) (wp : Bool) (moment : ℕ) → LastFill ds page side entry wp moment
+    → last_of ds page ≡ Some (record { moment = moment; side = side; entry = entry; wp = wp })
 last-to ds page side entry wp moment l =
     ap (λ (xs : List MadeCall). last_from xs page None) l.place
     ∙ last-append l.before (record { moment = moment; call = Fill side entry wp } ∷ l.later) page None
@@ -60,7 +65,8 @@ record Last (ds : List MadeCall) (page : ℕ) : Type 0 where
 abbrev Ends : List MadeCall → ℕ → Option Filling → Type 0
 Ends ds page o = LeaveAlone page (calls_of ds) ⊎ (Last ds page ⊎ (last_from ds page o ≡ None))
 
-ends-first : (c : Call) (moment : ℕ) (ds : List MadeCall) (page : ℕ) (o : Option Filling) → LeaveAlone page (calls_of ds) → Ends (record { moment = moment; call = c } ∷ ds) page o
+ends-first : (c : Call) (moment : ℕ) (ds : List MadeCall) (page : ℕ) (o : Option Filling) → LeaveAlone page (calls_of ds)
+    → Ends (record { moment = moment; call = c } ∷ ds) page o
 ends-first (Fill side entry wp) moment ds page o a =
     elim (eqb_tells page entry.page) [
       | inl t ↦ inr (inl (record {
@@ -87,7 +93,13 @@ last-later : (d : MadeCall) (ds : List MadeCall) (page : ℕ) → Last ds page �
 last-later d ds page f =
     record {
       fill = f.fill;
-      last = record { before = d ∷ f.last.before; later = f.last.later; place = ap (λ (xs : List MadeCall). d ∷ xs) f.last.place; here = f.last.here; alone = f.last.alone };
+      last = record {
+        before = d ∷ f.last.before;
+        later = f.last.later;
+        place = ap (λ (xs : List MadeCall). d ∷ xs) f.last.place;
+        here = f.last.here;
+        alone = f.last.alone;
+      };
     }
 
 ends : (ds : List MadeCall) (page : ℕ) (o : Option Filling) → Ends ds page o
@@ -110,7 +122,8 @@ last-is ds page f e =
       | inl a ↦ absurd (none-filling f (sym (alone-all ds page None a) ∙ e))
       | inr x ↦ elim x [
         | inl l ↦
-            let same : l.fill ≡ f = same-filling l.fill f (sym (last-to ds page l.fill.side l.fill.entry l.fill.wp l.fill.moment l.last) ∙ e) in
+            let same : l.fill ≡ f =
+            same-filling l.fill f (sym (last-to ds page l.fill.side l.fill.entry l.fill.wp l.fill.moment l.last) ∙ e) in
             subst (λ (g : Filling). LastFill ds page g.side g.entry g.wp g.moment) same l.last
         | inr n ↦ absurd (none-filling f (sym n ∙ e))
       ]

@@ -13,7 +13,8 @@ abbrev opt_root : Option OtherRoot → Option OtherRoot
 opt_root None = None
 opt_root (Some a) = Some (of_root a)
 
-one_found : (b : Bool) (a : OtherRoot) (o o' : Option OtherRoot) → o' ≡ opt_root o → cond b (Some (of_root a)) o' ≡ opt_root (cond b (Some a) o)
+one_found : (b : Bool) (a : OtherRoot) (o o' : Option OtherRoot) → o' ≡ opt_root o
+    → cond b (Some (of_root a)) o' ≡ opt_root (cond b (Some a) o)
 one_found true a o o' e = refl
 one_found false a o o' e = e
 
@@ -22,13 +23,16 @@ found cr3 [] = refl
 found cr3 (a ∷ os) = one_found (eqb a.cr3 cr3) a (of_cr3 cr3 os) (of_cr3 cr3 (of_roots os)) (found cr3 os)
 
 none_kept : of_pages (λ page. None) ≡ λ page. None
-none_kept = fun_ext (λ q. elim (leb_tells (2 ^ 20) q) [ inl g ↦ ap (λ b. cond {A = Option Slot} b None None) g.0 | inr k ↦ ap (λ b. cond {A = Option Slot} b None None) k.0 ])
+none_kept =
+    fun_ext (λ q. elim (leb_tells (2 ^ 20) q)
+    [ inl g ↦ ap (λ b. cond {A = Option Slot} b None None) g.0 | inr k ↦ ap (λ b. cond {A = Option Slot} b None None) k.0 ])
 
 begun : (cr3 : ℕ) (o : Option OtherRoot) → or_begun cr3 (opt_root o) ≡ of_root (or_begun cr3 o)
 begun cr3 None = same_root (begun_root cr3) (of_root (begun_root cr3)) refl refl (sym none_kept)
 begun cr3 (Some a) = refl
 
-one_but : (b : Bool) (a : OtherRoot) (os xs : List OtherRoot) (ys : List OtherRoot) → of_roots os ≡ xs → of_roots (cond b ys (a ∷ os)) ≡ cond b (of_roots ys) (of_root a ∷ xs)
+one_but : (b : Bool) (a : OtherRoot) (os xs : List OtherRoot) (ys : List OtherRoot) → of_roots os ≡ xs
+    → of_roots (cond b ys (a ∷ os)) ≡ cond b (of_roots ys) (of_root a ∷ xs)
 one_but true a os xs ys e = refl
 one_but false a os xs ys e = ap (λ (zs : List OtherRoot). of_root a ∷ zs) e
 
@@ -41,11 +45,13 @@ taken zero os = refl
 taken (suc n) [] = refl
 taken (suc n) (a ∷ os) = ap (λ (zs : List OtherRoot). of_root a ∷ zs) (taken n os)
 
-left : (cr3 : ℕ) (os : List OtherRoot) (o : Option OtherRoot) → of_roots (beside_coming cr3 os o) ≡ beside_coming cr3 (of_roots os) (opt_root o)
+left : (cr3 : ℕ) (os : List OtherRoot) (o : Option OtherRoot) → of_roots (beside_coming cr3 os o) ≡ beside_coming cr3
+    (of_roots os) (opt_root o)
 left cr3 os None = taken 7 os
 left cr3 os (Some a) = but cr3 os
 
-put : (stale : Bool) (cr3 : ℕ) (t : ℕ → Bool) (f : ℕ → Option Slot) (os : List OtherRoot) → of_roots (put_by (Some cr3) stale t f os) ≡ put_by (Some cr3) stale t (of_pages f) (of_roots os)
+put : (stale : Bool) (cr3 : ℕ) (t : ℕ → Bool) (f : ℕ → Option Slot) (os : List OtherRoot)
+    → of_roots (put_by (Some cr3) stale t f os) ≡ put_by (Some cr3) stale t (of_pages f) (of_roots os)
 put true cr3 t f os = refl
 put false cr3 t f os = refl
 
@@ -63,7 +69,8 @@ pub loaded_seen : (cr3 now : ℕ) (stale stale' : Bool) (t t' : ℕ → Bool) (f
 loaded_seen cr3 now stale stale' t t' f f' os os' c' a b same rest =
     let put_is = put stale now t f os in
     let xs = put_by (Some now) stale t f os in
-    let here : of_root (coming cr3 xs) ≡ coming cr3 (put_by (Some now) stale t (of_pages f) (of_roots os)) = coming_is cr3 xs ∙ ap (coming cr3) put_is in
+    let here : of_root (coming cr3 xs) ≡ coming cr3 (put_by (Some now) stale t (of_pages f) (of_roots os)) =
+    coming_is cr3 xs ∙ ap (coming cr3) put_is in
     same_seen _ _ (same_pages (coming cr3 xs).slots f' same.slots ∙ ap (λ (x : OtherRoot). x.slots) here)
     (fun_ext same.tables ∙ ap (λ (x : OtherRoot). x.tables) here)
     b a

@@ -22,21 +22,25 @@ set-exact bits i f l =
           ]
     ]
 
-pub read_from-exact : (p : Pair) (ps qs : List Pair) (frame f : ℕ) → length p.tables ≡ 16384 → frame < 16384 → qs ≡ noted_in (p ∷ ps) frame → noted_of qs f ≡ (reads p f || eqb f frame)
+pub read_from-exact : (p : Pair) (ps qs : List Pair) (frame f : ℕ) → length p.tables ≡ 16384 → frame < 16384 → qs ≡ noted_in (p ∷ ps) frame
+    → noted_of qs f ≡ (reads p f || eqb f frame)
 read_from-exact p ps qs frame f size low e = ap (λ xs. noted_of xs f) e ∙ set-exact p.tables frame f (omega (arith, size, low))
 
 stale-other : (b : Bool) (p : Pair) (frame f : ℕ) → (f ≡ frame → ⊥) → reads (spoilt b p frame) f ≡ reads p f
 stale-other true p frame f n = elim (reads-set p.tables frame f false) [ inl s ↦ s | inr t ↦ absurd (n t.0) ]
 stale-other false p frame f n = refl
 
-pub written-other : (p : Pair) (ps qs : List Pair) (frame f : ℕ) → qs ≡ written_in (p ∷ ps) frame → (f ≡ frame → ⊥) → noted_of qs f ≡ reads p f
+pub written-other : (p : Pair) (ps qs : List Pair) (frame f : ℕ) → qs ≡ written_in (p ∷ ps) frame → (f ≡ frame → ⊥)
+    → noted_of qs f ≡ reads p f
 written-other p ps qs frame f e n = ap (λ xs. noted_of xs f) e ∙ stale-other (reads p frame) p frame f n
 
 there-by : (b : Bool) (p : Pair) (frame : ℕ) → reads (spoilt b p frame) frame ≡ true → reads p frame ≡ true
-there-by true p frame h = elim (reads-set p.tables frame frame false) [ inl s ↦ sym s ∙ h | inr t ↦ absurd (both_ways (reads (spoilt true p frame) frame) t.2 h) ]
+there-by true p frame h =
+    elim (reads-set p.tables frame frame false) [ inl s ↦ sym s ∙ h | inr t ↦ absurd (both_ways (reads (spoilt true p frame) frame) t.2 h) ]
 there-by false p frame h = h
 
-pub written-there : (p : Pair) (ps qs : List Pair) (frame : ℕ) → qs ≡ written_in (p ∷ ps) frame → noted_of qs frame ≡ true → reads p frame ≡ true
+pub written-there : (p : Pair) (ps qs : List Pair) (frame : ℕ) → qs ≡ written_in (p ∷ ps) frame → noted_of qs frame ≡ true
+    → reads p frame ≡ true
 written-there p ps qs frame e h = there-by (reads p frame) p frame (sym (ap (λ xs. noted_of xs frame) e) ∙ h)
 
 stale-by : (b : Bool) (p : Pair) (frame : ℕ) → (spoilt b p frame).stale ≡ (p.stale || b)

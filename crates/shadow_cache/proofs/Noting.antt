@@ -26,7 +26,8 @@ use Rattle.std.proofs.Math.Bool.{or-false, or-true}
 
 pub alone-frames : (p : Pair) (ps : List Pair) (m : List ℕ) → ps ≡ [] → frames_of (p ∷ ps) m ≡ held p.shadow m
 alone-frames p ps m e =
-    ap (λ (qs : List Pair). frames_of (p ∷ qs) m) e ∙ frames-cons p [] m ∙ ap (λ (fs : List ℕ). held p.shadow m ++ fs) (none-frames m) ∙ append-nil (held p.shadow m)
+    ap (λ (qs : List Pair). frames_of (p ∷ qs) m) e ∙ frames-cons p [] m ∙ ap (λ (fs : List ℕ). held p.shadow m ++ fs) (none-frames m)
+    ∙ append-nil (held p.shadow m)
 
 pub fresh-roots : (p : Pair) (ps : List Pair) (m : List ℕ) → ps ≡ [] → IsEmpty p.shadow m → p.tables ≡ no_frames → IsRoots (p ∷ ps) m
 fresh-roots p ps m e f t =
@@ -52,7 +53,8 @@ out true false e = cc
 abbrev Bars : (ℕ → Bool) → Option Slot → Type 0
 Bars test o = (slot : Slot) → o ≡ Some slot → test slot.entry.frame ≡ true → slot.writes ≡ false
 
-bars-one : (t u : ℕ → Bool) (frame : ℕ) (o : Option Slot) → ((x : ℕ) → u x ≡ true → (x ≡ frame) ⊎ (t x ≡ true)) → Bars t o → Bars u (barred (one frame) o)
+bars-one : (t u : ℕ → Bool) (frame : ℕ) (o : Option Slot) → ((x : ℕ) → u x ≡ true → (x ≡ frame) ⊎ (t x ≡ true)) → Bars t o
+    → Bars u (barred (one frame) o)
 bars-one t u frame None i b = λ slot e y. absurd (none-some slot e)
 bars-one t u frame (Some s) i b = λ slot e y.
     let q = same_Some (record s { writes = s.writes && not (eqb s.entry.frame frame || false) }) slot e in
@@ -62,12 +64,16 @@ bars-one t u frame (Some s) i b = λ slot e y.
       | inr old ↦ and_left s.writes (not (eqb s.entry.frame frame || false)) (b s refl old)
     ]
 
-bars-read_from : (t u : ℕ → Bool) (frame : ℕ) (f f' : ℕ → Option Slot) → ((x : ℕ) → u x ≡ true → (x ≡ frame) ⊎ (t x ≡ true)) → LosesWrites f f' (one frame) → BarsWrites t f → BarsWrites u f'
-bars-read_from t u frame f f' i l b = λ page slot low e y. bars-one t u frame (f page) i (λ s q z. b page s low q z) slot (sym (l page low) ∙ e) y
+bars-read_from : (t u : ℕ → Bool) (frame : ℕ) (f f' : ℕ → Option Slot) → ((x : ℕ) → u x ≡ true → (x ≡ frame) ⊎ (t x ≡ true))
+    → LosesWrites f f' (one frame) → BarsWrites t f → BarsWrites u f'
+bars-read_from t u frame f f' i l b =
+    λ page slot low e y. bars-one t u frame (f page) i (λ s q z. b page s low q z) slot (sym (l page low) ∙ e) y
 
-pub all-read_from : (t u : ℕ → Bool) (frame : ℕ) (ps : List Pair) (m m' : List ℕ) → ((x : ℕ) → u x ≡ true → (x ≡ frame) ⊎ (t x ≡ true)) → AllLoseWrites ps m m' frame → AllBarWrites t ps m → AllBarWrites u ps m'
+pub all-read_from : (t u : ℕ → Bool) (frame : ℕ) (ps : List Pair) (m m' : List ℕ) → ((x : ℕ) → u x ≡ true → (x ≡ frame) ⊎ (t x ≡ true))
+    → AllLoseWrites ps m m' frame → AllBarWrites t ps m → AllBarWrites u ps m'
 all-read_from t u frame [] m m' i l b = tt
-all-read_from t u frame (p ∷ ps) m m' i l b = (bars-read_from t u frame (slot_at p.shadow m) (slot_at p.shadow m') i l.0 b.0, all-read_from t u frame ps m m' i l.1 b.1)
+all-read_from t u frame (p ∷ ps) m m' i l b =
+    (bars-read_from t u frame (slot_at p.shadow m) (slot_at p.shadow m') i l.0 b.0, all-read_from t u frame ps m m' i l.1 b.1)
 
 all-lose : (ps : List Pair) (m m1 m2 : List ℕ) (frame : ℕ) → AreKept ps m m1 → AllLoseWrites ps m1 m2 frame → AllLoseWrites ps m m2 frame
 all-lose [] m m1 m2 frame k l = tt
@@ -86,7 +92,8 @@ flags true b c h = ap (λ x. not (x || false)) (h refl) ∙ ap not (or-false c)
 -- ---- pair after pair
 
 module _ (p : Pair) (ps : List Pair) (m m1 m2 : List ℕ) (frame : ℕ) (h : IsRoots (p ∷ ps) m)
-    (s1 : IsShadow p.shadow m1) (l1 : LosesWrites (slot_at p.shadow m) (slot_at p.shadow m1) (frame ∷ [])) (e1 : held p.shadow m1 ≡ held p.shadow m) (w1 : Writes (held p.shadow m) m m1) where
+    (s1 : IsShadow p.shadow m1) (l1 : LosesWrites (slot_at p.shadow m) (slot_at p.shadow m1) (frame ∷ []))
+    (e1 : held p.shadow m1 ≡ held p.shadow m) (w1 : Writes (held p.shadow m) m m1) where
   kept1 : AreKept ps m m1
   kept1 = kept-same ps m m1 h.shadows.1 (apart p ps m m1 h s1 e1 w1)
 
@@ -102,9 +109,13 @@ module _ (p : Pair) (ps : List Pair) (m m1 m2 : List ℕ) (frame : ℕ) (h : IsR
   pub bar-holds : Holds m1 (frames_of ps m1)
   bar-holds = rest-holds p ps m1 holds1
 
-  module _ (shadows2 : AreShadows ps m2) (frames2 : frames_of ps m2 ≡ frames_of ps m1) (l2 : AllLoseWrites ps m1 m2 frame) (w2 : Writes (frames_of ps m1) m1 m2) where
+  module _ (shadows2 : AreShadows ps m2) (frames2 : frames_of ps m2 ≡ frames_of ps m1) (l2 : AllLoseWrites ps m1 m2 frame)
+      (w2 : Writes (frames_of ps m1) m1 m2) where
     apart2 : SameIn (held p.shadow m1) m1 m2
-    apart2 = record { size = w2.size; frames = λ f k. w2.others f (let t = times-frames f p ps m1 in let o = holds1.once f in omega (arith, t, o, k)) }
+    apart2 = record {
+      size = w2.size;
+      frames = λ f k. w2.others f (let t = times-frames f p ps m1 in let o = holds1.once f in omega (arith, t, o, k));
+    }
 
     pub bar-both : AreShadows (p ∷ ps) m2
     bar-both = (IsShadow-stays p.shadow m1 m2 s1 apart2, shadows2)
@@ -129,7 +140,8 @@ module _ (p : Pair) (ps : List Pair) (m m1 m2 : List ℕ) (frame : ℕ) (h : IsR
 
     pub bar-memory : Writes (frames_of (p ∷ ps) m) m m2
     bar-memory =
-        Writes-trans (frames_of (p ∷ ps) m) m m1 m2 (write-memory p ps m m1 h s1 e1 w1) (subst (λ (fs : List ℕ). Writes fs m1 m2) frames1 more)
+        Writes-trans (frames_of (p ∷ ps) m) m m1 m2 (write-memory p ps m m1 h s1 e1 w1)
+        (subst (λ (fs : List ℕ). Writes fs m1 m2) frames1 more)
 
 -- ---- a frame that is write-protected already
 
@@ -151,7 +163,8 @@ barred-before t frame (Some s) e b =
       | inr k ↦ a-write s.writes (eqb s.entry.frame frame) k.0
     ])
 
-pub all-barred : (t : ℕ → Bool) (frame : ℕ) (ps : List Pair) (m : List ℕ) → t frame ≡ true → AllBarWrites t ps m → AllLoseWrites ps m m frame
+pub all-barred : (t : ℕ → Bool) (frame : ℕ) (ps : List Pair) (m : List ℕ) → t frame ≡ true → AllBarWrites t ps m
+    → AllLoseWrites ps m m frame
 all-barred t frame [] m e b = tt
 all-barred t frame (p ∷ ps) m e b = (
   (λ page l. barred-before t frame (slot_at p.shadow m page) e (λ s q y. b.0 page s l q y)),
@@ -160,7 +173,8 @@ all-barred t frame (p ∷ ps) m e b = (
   λ side index h ne. ne,
 )
 
-pub write_protected-loses : (ps : List Pair) (m : List ℕ) (frame : ℕ) → IsRoots ps m → any_reads ps frame ≡ true → AllLoseWrites ps m m frame
+pub write_protected-loses : (ps : List Pair) (m : List ℕ) (frame : ℕ) → IsRoots ps m → any_reads ps frame ≡ true
+    → AllLoseWrites ps m m frame
 write_protected-loses ps m frame h e = all-barred (any_reads ps) frame ps m e h.barred
 
 -- ---- a frame that is noted
@@ -169,7 +183,8 @@ abbrev pub with_noted : Pair → ℕ → Pair
 with_noted p frame = record p { tables = slice_set p.tables frame true }
 
 module _ (p : Pair) (ps : List Pair) (m m2 : List ℕ) (frame : ℕ) (h : IsRoots (p ∷ ps) m) (low : frame < 16384)
-    (shadows : AreShadows (p ∷ ps) m2) (loses : AllLoseWrites (p ∷ ps) m m2 frame) (frames : frames_of (p ∷ ps) m2 ≡ frames_of (p ∷ ps) m) (memory : Writes (frames_of (p ∷ ps) m) m m2) where
+    (shadows : AreShadows (p ∷ ps) m2) (loses : AllLoseWrites (p ∷ ps) m m2 frame) (frames : frames_of (p ∷ ps) m2 ≡ frames_of (p ∷ ps) m)
+    (memory : Writes (frames_of (p ∷ ps) m) m m2) where
   size : length (slice_set p.tables frame true) ≡ 16384
   size = length-set p.tables frame true ∙ h.sized.0
 
@@ -179,7 +194,8 @@ module _ (p : Pair) (ps : List Pair) (m m2 : List ℕ) (frame : ℕ) (h : IsRoot
   pub note-frames : frames_of (with_noted p frame ∷ ps) m2 ≡ frames_of (p ∷ ps) m
   note-frames = frames-cons (with_noted p frame) ps m2 ∙ sym (frames-cons p ps m2) ∙ frames
 
-  pub note-moves : (pool : Pool) → Owns pool m (frames_of (p ∷ ps) m) → Moves pool pool m m2 (frames_of (p ∷ ps) m) (frames_of (with_noted p frame ∷ ps) m2)
+  pub note-moves : (pool : Pool) → Owns pool m (frames_of (p ∷ ps) m)
+      → Moves pool pool m m2 (frames_of (p ∷ ps) m) (frames_of (with_noted p frame ∷ ps) m2)
   note-moves pool o = Moves-kept pool m m2 (frames_of (p ∷ ps) m) (frames_of (with_noted p frame ∷ ps) m2) o note-frames memory
 
   pub note-roots : IsRoots (with_noted p frame ∷ ps) m2
@@ -190,7 +206,8 @@ module _ (p : Pair) (ps : List Pair) (m m2 : List ℕ) (frame : ℕ) (h : IsRoot
         shadows = shadows;
         sized = (size, h.sized.1);
         barred = (
-          bars-read_from (any_reads (p ∷ ps)) (any_reads (with_noted p frame ∷ ps)) frame (slot_at p.shadow m) (slot_at p.shadow m2) any-read_from loses.0 h.barred.0,
+          bars-read_from (any_reads (p ∷ ps)) (any_reads (with_noted p frame ∷ ps)) frame (slot_at p.shadow m) (slot_at p.shadow m2)
+              any-read_from loses.0 h.barred.0,
           all-read_from (any_reads (p ∷ ps)) (any_reads (with_noted p frame ∷ ps)) frame ps m m2 any-read_from loses.1 h.barred.1,
         );
         unmarked = h.unmarked;
@@ -201,14 +218,17 @@ module _ (p : Pair) (ps : List Pair) (m m2 : List ℕ) (frame : ℕ) (h : IsRoot
       elim (eqb_tells x frame) [
         | inl t ↦
             let z = h.sized.0 in
-            t.0 ∙ sym (ap (λ y. get_or (slice_set p.tables frame true) y false || any_reads ps y) t.1 ∙ ap (λ b. b || any_reads ps frame) (reads-there p.tables frame true (omega (arith, z, low))))
-        | inr t ↦ t.0 ∙ sym (false_from_ne_true (any_reads (with_noted p frame ∷ ps) x) (λ y. elim (any-read_from x y) [ inl s ↦ t.1 s | inr s ↦ (let q : false ≡ true = sym e ∙ s in cc) ]))
+            t.0 ∙ sym (ap (λ y. get_or (slice_set p.tables frame true) y false || any_reads ps y) t.1 ∙ ap (λ b. b || any_reads ps frame)
+            (reads-there p.tables frame true (omega (arith, z, low))))
+        | inr t ↦ t.0 ∙ sym (false_from_ne_true (any_reads (with_noted p frame ∷ ps) x)
+            (λ y. elim (any-read_from x y) [ inl s ↦ t.1 s | inr s ↦ (let q : false ≡ true = sym e ∙ s in cc) ]))
       ]
 
   same-rights : (o : Option Slot) → Bars (any_reads (p ∷ ps)) o → barred (frame ∷ []) o ≡ barred (tables_of (with_noted p frame ∷ ps)) o
   same-rights None b = refl
   same-rights (Some s) b =
-      ap (λ w. Some (record s { writes = w })) (flags s.writes (eqb s.entry.frame frame) (is_among s.entry.frame (tables_of (with_noted p frame ∷ ps))) (λ y.
+      ap (λ w. Some (record s { writes = w }))
+      (flags s.writes (eqb s.entry.frame frame) (is_among s.entry.frame (tables_of (with_noted p frame ∷ ps))) (λ y.
       any-is s.entry.frame (false_from_ne_true (any_reads (p ∷ ps) s.entry.frame) (λ z. (let q : true ≡ false = sym y ∙ b s refl z in cc)))
       ∙ sym (tables-any (with_noted p frame ∷ ps) s.entry.frame)))
 

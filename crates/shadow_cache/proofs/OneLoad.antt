@@ -63,7 +63,8 @@ short-none : (w : ℕ) (ps : List Past) (p : Past) → length ps ≤ 0 → of_va
 short-none w [] p l e = none-some p e
 short-none w (q ∷ ps) p l e = absurd (omega (arith, l))
 
-of-take : (n w : ℕ) (ps : List Past) (p : Past) → of_value w ps ≡ Some p → length ps ≤ suc n → is_of_value w (slice_get ps n) ≡ false → of_value w (take n ps) ≡ Some p
+of-take : (n w : ℕ) (ps : List Past) (p : Past) → of_value w ps ≡ Some p → length ps ≤ suc n → is_of_value w (slice_get ps n) ≡ false
+    → of_value w (take n ps) ≡ Some p
 of-take zero w [] p e l h = e
 of-take zero w (q ∷ ps) p e l h =
     absurd (short-none w ps p (omega (arith, l)) (sym (of-rest w q ps h) ∙ e))
@@ -75,7 +76,8 @@ of-take (suc n) w (q ∷ ps) p e l h =
     ]
 
 -- one that stands further on has another value than the first
-first-by : (o : Option Past) (w : ℕ) (q : Past) → is_of_value w o ≡ true → ((x : Past) → o ≡ Some x → eqb x.value q.value ≡ false) → eqb q.value w ≡ false
+first-by : (o : Option Past) (w : ℕ) (q : Past) → is_of_value w o ≡ true → ((x : Past) → o ≡ Some x → eqb x.value q.value ≡ false)
+    → eqb q.value w ≡ false
 first-by None w q h n = cc
 first-by (Some x) w q h n =
     elim (eqb_tells x.value w) [
@@ -83,7 +85,8 @@ first-by (Some x) w q h n =
       | inr t ↦ absurd (both_ways (eqb x.value w) t.0 h)
     ]
 
-first-other : (n w : ℕ) (q : Past) (ps : List Past) → has_value q.value ps ≡ false → is_of_value w (slice_get ps n) ≡ true → eqb q.value w ≡ false
+first-other : (n w : ℕ) (q : Past) (ps : List Past) → has_value q.value ps ≡ false → is_of_value w (slice_get ps n) ≡ true
+    → eqb q.value w ≡ false
 first-other n w q ps a h = first-by (slice_get ps n) w q h (λ x e. has-at ps n x q.value e a)
 
 last-goes : (n w : ℕ) (ps : List Past) → AreApart ps → is_of_value w (slice_get ps n) ≡ true → has_value w (take n ps) ≡ false
@@ -93,7 +96,8 @@ last-goes (suc n) w (q ∷ ps) a h = or_from (eqb q.value w) (has_value w (take 
 
 -- ---- those that a test lets stay
 
-of-kept : (b : Bool) (w : ℕ) (p q : Past) (rest : List Past) → b ≡ true → q ≡ p → eqb q.value w ≡ true → of_value w (cond b (q ∷ rest) rest) ≡ Some p
+of-kept : (b : Bool) (w : ℕ) (p q : Past) (rest : List Past) → b ≡ true → q ≡ p → eqb q.value w ≡ true
+    → of_value w (cond b (q ∷ rest) rest) ≡ Some p
 of-kept true w p q rest e s t = ap (λ x. cond x (Some q) (of_value w rest)) t ∙ ap (λ x. Some x) s
 of-kept false w p q rest e s t = cc
 
@@ -116,13 +120,16 @@ both-false true b e = cc
 both-false false b e = refl
 
 module _ (v : ℕ) (p : Past) (ps : List Past) (a : AreApart ps) (few : length ps ≤ 8) (here : of_value p.value ps ≡ Some p) where
-  goes-by : (o : Option Past) → of_value v ps ≡ o → (not (has_value v ps) && is_of_value p.value (slice_get ps 7)) ≡ true → p.value ≢ v → has_value p.value (with_front v ps o) ≡ false
+  goes-by : (o : Option Past) → of_value v ps ≡ o → (not (has_value v ps) && is_of_value p.value (slice_get ps 7)) ≡ true → p.value ≢ v
+      → has_value p.value (with_front v ps o) ≡ false
   goes-by None e h n =
       or_from (eqb v p.value) (has_value p.value (take 7 ps)) (ne_eqb v p.value (λ s. n (sym s)))
       (last-goes 7 p.value ps a (sym (both-false (has_value v ps) (is_of_value p.value (slice_get ps 7)) (of-none v ps e)) ∙ h))
-  goes-by (Some q) e h n = absurd (none-some q (sym (none-of v ps (not-first (has_value v ps) (is_of_value p.value (slice_get ps 7)) h)) ∙ e))
+  goes-by (Some q) e h n =
+      absurd (none-some q (sym (none-of v ps (not-first (has_value v ps) (is_of_value p.value (slice_get ps 7)) h)) ∙ e))
 
-  stays-by : (o : Option Past) → of_value v ps ≡ o → (not (has_value v ps) && is_of_value p.value (slice_get ps 7)) ≡ false → p.value ≢ v → of_value p.value (with_front v ps o) ≡ Some p
+  stays-by : (o : Option Past) → of_value v ps ≡ o → (not (has_value v ps) && is_of_value p.value (slice_get ps 7)) ≡ false → p.value ≢ v
+      → of_value p.value (with_front v ps o) ≡ Some p
   stays-by None e h n =
       of-rest p.value (begun v) (take 7 ps) (ne_eqb v p.value (λ s. n (sym s)))
       ∙ of-take 7 p.value ps p here few (sym (both-false (has_value v ps) (is_of_value p.value (slice_get ps 7)) (of-none v ps e)) ∙ h)
@@ -137,7 +144,8 @@ module _ (v : ℕ) (p : Past) (ps : List Past) (a : AreApart ps) (few : length p
   load-goes : (not (has_value v ps) && is_of_value p.value (slice_get ps 7)) ≡ true → has_value p.value (after_switch v ps) ≡ false
   load-goes h =
       elim (eqb_tells p.value v) [
-        | inl t ↦ absurd (none-some p (sym (none-of v ps (not-first (has_value v ps) (is_of_value p.value (slice_get ps 7)) h)) ∙ its-own t.1))
+        | inl t ↦ absurd (none-some p
+            (sym (none-of v ps (not-first (has_value v ps) (is_of_value p.value (slice_get ps 7)) h)) ∙ its-own t.1))
         | inr t ↦ goes-by (of_value v ps) refl h t.1
       ]
 
@@ -150,11 +158,13 @@ module _ (v : ℕ) (p : Past) (ps : List Past) (a : AreApart ps) (few : length p
 
 -- ---- the others
 
-unmarked-of : (b : Bool) (w : ℕ) (p q : Past) (ps : List Past) → eqb q.value w ≡ false → of_value w ps ≡ Some p → of_value w (cond b ps (q ∷ ps)) ≡ Some p
+unmarked-of : (b : Bool) (w : ℕ) (p q : Past) (ps : List Past) → eqb q.value w ≡ false → of_value w ps ≡ Some p
+    → of_value w (cond b ps (q ∷ ps)) ≡ Some p
 unmarked-of true w p q ps n e = e
 unmarked-of false w p q ps n e = of-rest w q ps n ∙ e
 
-module _ (n : ℕ) (q : Past) (ps : List Past) (a : AreApart (q ∷ ps)) (few : length (q ∷ ps) ≤ 8) (i : ℕ) (p : Past) (at : slice_get ps i ≡ Some p) where
+module _ (n : ℕ) (q : Past) (ps : List Past) (a : AreApart (q ∷ ps)) (few : length (q ∷ ps) ≤ 8) (i : ℕ) (p : Past)
+    (at : slice_get ps i ≡ Some p) where
   other : eqb q.value p.value ≡ false
   other = eqb-swap p.value q.value (has-at ps i p q.value at a.0)
 
@@ -175,7 +185,8 @@ module _ (n : ℕ) (q : Past) (ps : List Past) (a : AreApart (q ∷ ps)) (few : 
   others-go (Shared (Note frame)) h = absurd (both_ways false refl h)
   others-go (Shared (Written frame)) h =
       let t : Past → Bool = λ x. not (is_among frame x.tables) in
-      or_from (eqb (marked_at frame q).value p.value) (has_value p.value (filter t ps)) (stale-value-other frame) (filter-gone p t ps (ap not h) a.1 (inr here))
+      or_from (eqb (marked_at frame q).value p.value) (has_value p.value (filter t ps)) (stale-value-other frame)
+      (filter-gone p t ps (ap not h) a.1 (inr here))
 
   abbrev Here : List Past → Type 0
   Here qs = of_value p.value qs ≡ Some p
@@ -215,8 +226,10 @@ not-of : (o : Option Past) (q : Past) → ((x : Past) → o ≡ Some x → eqb x
 not-of None q n = refl
 not-of (Some x) q n = n x refl
 
-present-seventh : (v : ℕ) (q : Past) (ps : List Past) → AreApart (q ∷ ps) → (not (has_value v (q ∷ ps)) && is_of_value q.value (slice_get (q ∷ ps) 7)) ≡ false
-present-seventh v q ps a = never (has_value v (q ∷ ps)) (is_of_value q.value (slice_get ps 6)) (not-of (slice_get ps 6) q (λ x e. has-at ps 6 x q.value e a.0))
+present-seventh : (v : ℕ) (q : Past) (ps : List Past) → AreApart (q ∷ ps)
+    → (not (has_value v (q ∷ ps)) && is_of_value q.value (slice_get (q ∷ ps) 7)) ≡ false
+present-seventh v q ps a =
+    never (has_value v (q ∷ ps)) (is_of_value q.value (slice_get ps 6)) (not-of (slice_get ps 6) q (λ x e. has-at ps 6 x q.value e a.0))
 
 pub present-leaves-or-stays : PresentLeavesOrStays
 present-leaves-or-stays value calls v q ps e =
@@ -225,7 +238,8 @@ present-leaves-or-stays value calls v q ps e =
     let same : (w : ℕ) → pairs_after value (calls ++ Switch w ∷ []) ≡ after_switch w (cond q.stale ps (q ∷ ps)) =
     λ w. pairs-more value calls (Switch w) ∙ ap (after_call (length calls) (Switch w)) e
     in (
-      (λ m n. ap (has_value q.value) (same v ∙ ap (λ b. after_switch v (cond b ps (q ∷ ps))) m) ∙ front-gone q.value v ps (of_value v ps) n refl a.0),
+      (λ m n. ap (has_value q.value) (same v ∙ ap (λ b. after_switch v (cond b ps (q ∷ ps))) m) ∙ front-gone q.value v ps
+          (of_value v ps) n refl a.0),
       (λ m. subst (IsPresent (begun q.value)) (sym (same q.value ∙ ap (λ b. after_switch q.value (cond b ps (q ∷ ps))) m))
           (begins-by q.value ps (of_value q.value ps) (none-of q.value ps a.0))),
       (λ m. ap (of_value q.value) (same v ∙ ap (λ b. after_switch v (cond b ps (q ∷ ps))) m)

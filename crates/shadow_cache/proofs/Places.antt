@@ -27,11 +27,13 @@ filled-later done d place f =
       moment = f.moment;
       entry = f.entry;
       wp = f.wp;
-      fill = ap (λ (ds : List MadeCall). ds ++ d ∷ []) f.fill ∙ append_assoc f.before (record { moment = f.moment; call = Fill place.side f.entry f.wp } ∷ f.later) (d ∷ []);
+      fill = ap (λ (ds : List MadeCall). ds ++ d ∷ []) f.fill
+          ∙ append_assoc f.before (record { moment = f.moment; call = Fill place.side f.entry f.wp } ∷ f.later) (d ∷ []);
       under = f.under;
     }
 
-filled-now : (done : List MadeCall) (moment : ℕ) (side : Side) (entry : Entry) (wp : Bool) (place : DirSlot) → (is_side place.side side && eqb place.index (entry.page / 1024)) ≡ true
+filled-now : (done : List MadeCall) (moment : ℕ) (side : Side) (entry : Entry) (wp : Bool) (place : DirSlot)
+    → (is_side place.side side && eqb place.index (entry.page / 1024)) ≡ true
     → IsFilledUnder (done ++ record { moment = moment; call = Fill side entry wp } ∷ []) place
 filled-now done moment side entry wp place t =
     let s : place.side ≡ side = side-is place.side side (and_parts (is_side place.side side) (eqb place.index (entry.page / 1024)) t).0 in
@@ -42,28 +44,36 @@ filled-now done moment side entry wp place t =
       entry = entry;
       wp = wp;
       fill = ap (λ x. done ++ record { moment = moment; call = Fill x entry wp } ∷ []) (sym s);
-      under = sym (eqb-true place.index (entry.page / 1024) (and_parts (is_side place.side side) (eqb place.index (entry.page / 1024)) t).1);
+      under =
+          sym (eqb-true place.index (entry.page / 1024) (and_parts (is_side place.side side) (eqb place.index (entry.page / 1024)) t).1);
     }
 
 -- a place more, where it isn't there
 abbrev AreFilledUnder : List MadeCall → List DirSlot → Type 0
 AreFilledUnder done places = (place : DirSlot) → is_place place places ≡ true → IsFilledUnder done place
 
-with-filled : (b : Bool) (done : List MadeCall) (moment : ℕ) (side : Side) (entry : Entry) (wp : Bool) (places : List DirSlot) → AreFilledUnder done places
-    → AreFilledUnder (done ++ record { moment = moment; call = Fill side entry wp } ∷ []) (cond b places (record { side = side; index = entry.page / 1024 } ∷ places))
-with-filled true done moment side entry wp places f = λ place t. filled-later done (record { moment = moment; call = Fill side entry wp }) place (f place t)
+with-filled : (b : Bool) (done : List MadeCall) (moment : ℕ) (side : Side) (entry : Entry) (wp : Bool) (places : List DirSlot)
+    → AreFilledUnder done places
+    → AreFilledUnder (done ++ record { moment = moment; call = Fill side entry wp } ∷ [])
+    (cond b places (record { side = side; index = entry.page / 1024 } ∷ places))
+with-filled true done moment side entry wp places f =
+    λ place t. filled-later done (record { moment = moment; call = Fill side entry wp }) place (f place t)
 with-filled false done moment side entry wp places f = λ place t.
     elim (or_cases (is_side place.side side && eqb place.index (entry.page / 1024)) (is_place place places) t) [
       | inl x ↦ filled-now done moment side entry wp place x
       | inr x ↦ filled-later done (record { moment = moment; call = Fill side entry wp }) place (f place x)
     ]
 
-with-once : (b : Bool) (place : DirSlot) (places : List DirSlot) → is_place place places ≡ b → IsEachOnce places → IsEachOnce (cond b places (place ∷ places))
+with-once : (b : Bool) (place : DirSlot) (places : List DirSlot) → is_place place places ≡ b → IsEachOnce places
+    → IsEachOnce (cond b places (place ∷ places))
 with-once true place places e o = o
 with-once false place places e o = (e, o)
 
 placed-filled : (p : Past) (moment : ℕ) (side : Side) (entry : Entry) (wp : Bool) → IsPlaced p
-    → IsPlaced (record p { calls = p.calls ++ record { moment = moment; call = Fill side entry wp } ∷ []; places = with_place (record { side = side; index = entry.page / 1024 }) p.places })
+    → IsPlaced (record p {
+      calls = p.calls ++ record { moment = moment; call = Fill side entry wp } ∷ [];
+      places = with_place (record { side = side; index = entry.page / 1024 }) p.places;
+    })
 placed-filled p moment side entry wp a =
     let place : DirSlot = record { side = side; index = entry.page / 1024 } in
     record {
@@ -77,7 +87,8 @@ placed-later p d a = record { filled = λ place t. filled-later p.calls d place 
 placed-begun : (v : ℕ) → IsPlaced (begun v)
 placed-begun v = record { filled = λ place t. absurd (let e : false ≡ true = t in cc); once = tt }
 
-placed-stale : (b : Bool) (frame : ℕ) (p : Past) → IsPlaced p → IsPlaced (cond b (record p { tables = all_but frame p.tables; stale = true }) p)
+placed-stale : (b : Bool) (frame : ℕ) (p : Past) → IsPlaced p
+    → IsPlaced (cond b (record p { tables = all_but frame p.tables; stale = true }) p)
 placed-stale true frame p a = record { filled = a.filled; once = a.once }
 placed-stale false frame p a = a
 
@@ -129,7 +140,8 @@ shared-placed n (DropPage page) (p ∷ ps) a = (placed-later p (record { moment 
 shared-placed n (DropDir index) (p ∷ ps) a = (placed-later p (record { moment = n; call = DropDir index }) a.0, a.1)
 shared-placed n DropAll (p ∷ ps) a = (placed-begun p.value, tt)
 shared-placed n (Note frame) (p ∷ ps) a = (record { filled = a.0.filled; once = a.0.once }, a.1)
-shared-placed n (Written frame) (p ∷ ps) a = (placed-stale (is_among frame p.tables) frame p a.0, filter-placed (λ (q : Past). not (is_among frame q.tables)) ps a.1)
+shared-placed n (Written frame) (p ∷ ps) a =
+    (placed-stale (is_among frame p.tables) frame p a.0, filter-placed (λ (q : Past). not (is_among frame q.tables)) ps a.1)
 
 call-placed : (n : ℕ) (c : RootsCall) (ps : List Past) → ArePlaced ps → ArePlaced (after_call n c ps)
 call-placed n (Shared c) ps a = shared-placed n c ps a

@@ -15,22 +15,28 @@ use Rattle.shadow_cache.specs.Laws.{frames-cons, kept-same, kept-shadows, kept-f
 
 -- ---- rights to write
 
-pub bars-turned : (test : ℕ → Bool) (f f' : ℕ → Option Slot) (page : ℕ) → BarsWrites test f → ((q : ℕ) → q < 2 ^ 20 → (q ≡ page → ⊥) → f' q ≡ f q) → ((slot : Slot) → f' page ≡ Some slot → test slot.entry.frame ≡ true → slot.writes ≡ false) → BarsWrites test f'
+pub bars-turned : (test : ℕ → Bool) (f f' : ℕ → Option Slot) (page : ℕ) → BarsWrites test f
+    → ((q : ℕ) → q < 2 ^ 20 → (q ≡ page → ⊥) → f' q ≡ f q)
+    → ((slot : Slot) → f' page ≡ Some slot → test slot.entry.frame ≡ true → slot.writes ≡ false) → BarsWrites test f'
 bars-turned test f f' page b others here = λ q slot l e t.
     elim (eqb_tells q page) [ inl x ↦ here slot (ap f' (sym x.1) ∙ e) t | inr x ↦ b q slot l (sym (others q l x.1) ∙ e) t ]
 
-pub bars-dropped : (test : ℕ → Bool) (f f' : ℕ → Option Slot) (page : ℕ) → BarsWrites test f → f' page ≡ None → ((q : ℕ) → q < 2 ^ 20 → (q ≡ page → ⊥) → f' q ≡ f q) → BarsWrites test f'
+pub bars-dropped : (test : ℕ → Bool) (f f' : ℕ → Option Slot) (page : ℕ) → BarsWrites test f → f' page ≡ None
+    → ((q : ℕ) → q < 2 ^ 20 → (q ≡ page → ⊥) → f' q ≡ f q) → BarsWrites test f'
 bars-dropped test f f' page b none others = bars-turned test f f' page b others (λ slot e t. absurd (none-some slot (sym none ∙ e)))
 
 pub bars-lost : (test : ℕ → Bool) (f f' : ℕ → Option Slot) (index : ℕ) → BarsWrites test f → LosesDir f f' index → BarsWrites test f'
 bars-lost test f f' index b d = λ q slot l e t.
-    elim (eqb_tells (q / 1024) index) [ inl x ↦ absurd (none-some slot (sym (d.gone q l x.1) ∙ e)) | inr x ↦ b q slot l (sym (d.others q l x.1) ∙ e) t ]
+    elim (eqb_tells (q / 1024) index)
+    [ inl x ↦ absurd (none-some slot (sym (d.gone q l x.1) ∙ e)) | inr x ↦ b q slot l (sym (d.others q l x.1) ∙ e) t ]
 
 no-right : (b p : Bool) → b ≡ true → (not b && p) ≡ false
 no-right true p e = refl
 no-right false p e = cc
 
-pub bars-filled : (test : ℕ → Bool) (f f' : ℕ → Option Slot) (b : Bool) (side : Side) (entry : Entry) (wp : Bool) → b ≡ test entry.frame → BarsWrites test f → f' entry.page ≡ Some (filled b side entry wp) → ((q : ℕ) → q < 2 ^ 20 → (q ≡ entry.page → ⊥) → f' q ≡ f q) → BarsWrites test f'
+pub bars-filled : (test : ℕ → Bool) (f f' : ℕ → Option Slot) (b : Bool) (side : Side) (entry : Entry) (wp : Bool) → b ≡ test entry.frame
+    → BarsWrites test f → f' entry.page ≡ Some (filled b side entry wp) → ((q : ℕ) → q < 2 ^ 20 → (q ≡ entry.page → ⊥) → f' q ≡ f q)
+    → BarsWrites test f'
 bars-filled test f f' b side entry wp same bars there others =
     bars-turned test f f' entry.page bars others (λ slot e t. (
     let q = same_Some (filled b side entry wp) slot (sym there ∙ e) in
@@ -39,7 +45,8 @@ bars-filled test f f' b side entry wp same bars there others =
 
 -- ---- the pairs
 
-module _ (p : Pair) (ps : List Pair) (m m' : List ℕ) (h : IsRoots (p ∷ ps) m) (s : IsShadow p.shadow m') (e : SameIn (frames_of ps m) m m') (b : BarsWrites (any_reads (p ∷ ps)) (slot_at p.shadow m')) where
+module _ (p : Pair) (ps : List Pair) (m m' : List ℕ) (h : IsRoots (p ∷ ps) m) (s : IsShadow p.shadow m') (e : SameIn (frames_of ps m) m m')
+    (b : BarsWrites (any_reads (p ∷ ps)) (slot_at p.shadow m')) where
   rest-frames : frames_of ps m' ≡ frames_of ps m
   rest-frames = kept-frames ps m m' (kept-same ps m m' h.shadows.1 e)
 
@@ -59,7 +66,8 @@ module _ (p : Pair) (ps : List Pair) (m m' : List ℕ) (h : IsRoots (p ∷ ps) m
       }
 
 -- only its frames were written, and they are the same ones
-module _ (p : Pair) (ps : List Pair) (m m' : List ℕ) (h : IsRoots (p ∷ ps) m) (s : IsShadow p.shadow m') (same : held p.shadow m' ≡ held p.shadow m) (w : Writes (held p.shadow m) m m') where
+module _ (p : Pair) (ps : List Pair) (m m' : List ℕ) (h : IsRoots (p ∷ ps) m) (s : IsShadow p.shadow m')
+    (same : held p.shadow m' ≡ held p.shadow m) (w : Writes (held p.shadow m) m m') where
   joint : Holds m (held p.shadow m ++ frames_of ps m)
   joint = subst (Holds m) (frames-cons p ps m) h.holds
 
@@ -72,7 +80,8 @@ module _ (p : Pair) (ps : List Pair) (m m' : List ℕ) (h : IsRoots (p ∷ ps) m
   pub write-roots : BarsWrites (any_reads (p ∷ ps)) (slot_at p.shadow m') → IsRoots (p ∷ ps) m'
   write-roots b =
       present-roots p ps m m' h s apart b
-      (subst (λ (fs : List ℕ). Holds m' (fs ++ frames_of ps m)) (sym same) (Holds-writes (held p.shadow m ++ frames_of ps m) m m' joint w.size))
+      (subst (λ (fs : List ℕ). Holds m' (fs ++ frames_of ps m)) (sym same)
+      (Holds-writes (held p.shadow m ++ frames_of ps m) m m' joint w.size))
 
   pub write-frames : frames_of (p ∷ ps) m' ≡ frames_of (p ∷ ps) m
   write-frames =
@@ -86,7 +95,8 @@ module _ (p : Pair) (ps : List Pair) (m m' : List ℕ) (h : IsRoots (p ∷ ps) m
   write-moves pool o = Moves-kept pool m m' (frames_of (p ∷ ps) m) (frames_of (p ∷ ps) m') o write-frames write-memory
 
 -- its frames may be others then
-module _ (pool pool' : Pool) (p : Pair) (ps : List Pair) (m m' : List ℕ) (h : IsRoots (p ∷ ps) m) (o : Owns pool m (frames_of (p ∷ ps) m)) where
+module _ (pool pool' : Pool) (p : Pair) (ps : List Pair) (m m' : List ℕ) (h : IsRoots (p ∷ ps) m)
+    (o : Owns pool m (frames_of (p ∷ ps) m)) where
   parted : Owns pool m (held p.shadow m ++ frames_of ps m)
   parted = subst (Owns pool m) (frames-cons p ps m) o
 
@@ -106,11 +116,13 @@ module _ (pool pool' : Pool) (p : Pair) (ps : List Pair) (m m' : List ℕ) (h : 
     pub move-roots : BarsWrites (any_reads (p ∷ ps)) (slot_at p.shadow m') → IsRoots (p ∷ ps) m'
     move-roots b =
         present-roots p ps m m' h s aside b
-        (Holds-from_Owns pool' m' (held p.shadow m' ++ frames_of ps m) (Owns-moves pool pool' m m' (held p.shadow m ++ frames_of ps m) (held p.shadow m' ++ frames_of ps m) parted moved))
+        (Holds-from_Owns pool' m' (held p.shadow m' ++ frames_of ps m)
+        (Owns-moves pool pool' m m' (held p.shadow m ++ frames_of ps m) (held p.shadow m' ++ frames_of ps m) parted moved))
 
     pub move-moves : Moves pool pool' m m' (frames_of (p ∷ ps) m) (frames_of (p ∷ ps) m')
     move-moves =
-        let there = frames-cons p ps m' ∙ ap (λ (fs : List ℕ). held p.shadow m' ++ fs) (kept-frames ps m m' (kept-same ps m m' h.shadows.1 aside)) in
+        let there = frames-cons p ps m'
+        ∙ ap (λ (fs : List ℕ). held p.shadow m' ++ fs) (kept-frames ps m m' (kept-same ps m m' h.shadows.1 aside)) in
         subst (λ (fs : List ℕ). Moves pool pool' m m' fs (frames_of (p ∷ ps) m')) (sym (frames-cons p ps m))
         (subst (Moves pool pool' m m' (held p.shadow m ++ frames_of ps m)) (sym there) moved)
 

@@ -14,7 +14,8 @@ use Rattle.shadow_cache.proofs.Tabled.{Fewer, AsMany, OneMore, fewer-as}
 
 -- ---- nothing changes
 
-pub slot-stays : (v : ℕ) (cs : List RootsCall) (c : RootsCall) (x : Option Filling) (o o' : Option Slot) → Fewer v cs c → o' ≡ o → IsSlot v cs x o → IsSlot v (cs ++ c ∷ []) x o'
+pub slot-stays : (v : ℕ) (cs : List RootsCall) (c : RootsCall) (x : Option Filling) (o o' : Option Slot) → Fewer v cs c → o' ≡ o
+    → IsSlot v cs x o → IsSlot v (cs ++ c ∷ []) x o'
 slot-stays v cs c None o o' w e h = e ∙ h
 slot-stays v cs c (Some f) o o' w e h =
     let l = length-more cs c in let early = h.early in
@@ -24,7 +25,10 @@ slot-stays v cs c (Some f) o o' w e h =
       early = omega (arith, l, early);
       free = λ b.
           let n = h.free b in
-          since-more v cs c f.moment f.entry.frame n (false_from_ne_true (is_table (pairs_after v (cs ++ c ∷ [])) f.entry.frame) (λ t. both_ways (is_table (pairs_after v cs) f.entry.frame) (since-now v cs f.moment f.entry.frame h.early n) (w f.entry.frame t)));
+          since-more v cs c f.moment f.entry.frame n
+          (false_from_ne_true (is_table (pairs_after v (cs ++ c ∷ [])) f.entry.frame)
+          (λ t. both_ways (is_table (pairs_after v cs) f.entry.frame) (since-now v cs f.moment f.entry.frame h.early n)
+          (w f.entry.frame t)));
       still = λ n. h.still (since-less v cs c f.moment f.entry.frame n);
     }
 
@@ -37,7 +41,8 @@ bar-more false true false = refl
 bar-more false false true = refl
 bar-more false false false = refl
 
-pub slot-read_from : (v : ℕ) (cs : List RootsCall) (c : RootsCall) (frame : ℕ) (x : Option Filling) (o o' : Option Slot) → OneMore v cs c frame → o' ≡ barred (frame ∷ []) o → IsSlot v cs x o → IsSlot v (cs ++ c ∷ []) x o'
+pub slot-read_from : (v : ℕ) (cs : List RootsCall) (c : RootsCall) (frame : ℕ) (x : Option Filling) (o o' : Option Slot)
+    → OneMore v cs c frame → o' ≡ barred (frame ∷ []) o → IsSlot v cs x o → IsSlot v (cs ++ c ∷ []) x o'
 slot-read_from v cs c frame None o o' w e h = e ∙ ap (barred (frame ∷ [])) h
 slot-read_from v cs c frame (Some f) o o' w e h =
     let l = length-more cs c in let early = h.early in
@@ -46,11 +51,13 @@ slot-read_from v cs c frame (Some f) o o' w e h =
     record {
       barred = h.barred || q;
       slot = e ∙ ap (barred (frame ∷ [])) h.slot
-          ∙ ap (λ w. Some (record { side = f.side; entry = f.entry; reads = permits f.side f.entry false f.wp; writes = w })) (bar-more h.barred (permits f.side f.entry true f.wp) q);
+          ∙ ap (λ w. Some (record { side = f.side; entry = f.entry; reads = permits f.side f.entry false f.wp; writes = w }))
+          (bar-more h.barred (permits f.side f.entry true f.wp) q);
       early = omega (arith, l, early);
       free = λ b.
           let n = h.free (or_parts h.barred q b).0 in
-          since-more v cs c f.moment f.entry.frame n (w f.entry.frame ∙ or_from q t (or_parts h.barred q b).1 (since-now v cs f.moment f.entry.frame h.early n));
+          since-more v cs c f.moment f.entry.frame n
+          (w f.entry.frame ∙ or_from q t (or_parts h.barred q b).1 (since-now v cs f.moment f.entry.frame h.early n));
       still = λ n.
           let now = since-now v (cs ++ c ∷ []) f.moment f.entry.frame (omega (arith, l, early)) n in
           or_from h.barred q (h.still (since-less v cs c f.moment f.entry.frame n)) (or_parts q t (sym (w f.entry.frame) ∙ now)).0;
@@ -58,7 +65,8 @@ slot-read_from v cs c frame (Some f) o o' w e h =
 
 -- ---- a page is filled
 
-slot-new : (v : ℕ) (cs : List RootsCall) (c : RootsCall) (side : Side) (entry : Entry) (wp b : Bool) (o' : Option Slot) → AsMany v cs c → b ≡ is_table (pairs_after v cs) entry.frame → o' ≡ Some (filled b side entry wp)
+slot-new : (v : ℕ) (cs : List RootsCall) (c : RootsCall) (side : Side) (entry : Entry) (wp b : Bool) (o' : Option Slot) → AsMany v cs c
+    → b ≡ is_table (pairs_after v cs) entry.frame → o' ≡ Some (filled b side entry wp)
     → IsHeld v (cs ++ c ∷ []) (record { moment = length cs; side = side; entry = entry; wp = wp }) o'
 slot-new v cs c side entry wp b o' w e t =
     let l = length-more cs c in
@@ -70,8 +78,10 @@ slot-new v cs c side entry wp b o' w e t =
       still = λ n. e ∙ sym (w entry.frame) ∙ since-now v (cs ++ c ∷ []) (length cs) entry.frame (omega (arith, l)) n;
     }
 
-pub slot-filled : (v : ℕ) (cs : List RootsCall) (c : RootsCall) (side : Side) (entry : Entry) (wp b : Bool) (x : Option Filling) (f f' : ℕ → Option Slot) (page : ℕ) → AsMany v cs c → b ≡ is_table (pairs_after v cs) entry.frame
-    → Turns f f' entry.page (Some (filled b side entry wp)) → page < 2 ^ 20 → IsSlot v cs x (f page) → IsSlot v (cs ++ c ∷ []) (filling_after (Fill side entry wp) (length cs) page x) (f' page)
+pub slot-filled : (v : ℕ) (cs : List RootsCall) (c : RootsCall) (side : Side) (entry : Entry) (wp b : Bool) (x : Option Filling)
+    (f f' : ℕ → Option Slot) (page : ℕ) → AsMany v cs c → b ≡ is_table (pairs_after v cs) entry.frame
+    → Turns f f' entry.page (Some (filled b side entry wp)) → page < 2 ^ 20 → IsSlot v cs x (f page)
+    → IsSlot v (cs ++ c ∷ []) (filling_after (Fill side entry wp) (length cs) page x) (f' page)
 slot-filled v cs c side entry wp b x f f' page w e t low h =
     let new : Option Filling = Some (record { moment = length cs; side = side; entry = entry; wp = wp }) in
     elim (eqb_tells page entry.page) [
@@ -85,7 +95,8 @@ slot-filled v cs c side entry wp b x f f' page w e t low h =
 
 -- ---- pages are dropped
 
-pub slot-dropped : (v : ℕ) (cs : List RootsCall) (c : RootsCall) (dropped : ℕ) (x : Option Filling) (f f' : ℕ → Option Slot) (page : ℕ) → AsMany v cs c → Turns f f' dropped None → page < 2 ^ 20 → IsSlot v cs x (f page)
+pub slot-dropped : (v : ℕ) (cs : List RootsCall) (c : RootsCall) (dropped : ℕ) (x : Option Filling) (f f' : ℕ → Option Slot) (page : ℕ)
+    → AsMany v cs c → Turns f f' dropped None → page < 2 ^ 20 → IsSlot v cs x (f page)
     → IsSlot v (cs ++ c ∷ []) (filling_after (DropPage dropped) (length cs) page x) (f' page)
 slot-dropped v cs c dropped x f f' page w t low h =
     elim (eqb_tells page dropped) [
@@ -95,7 +106,8 @@ slot-dropped v cs c dropped x f f' page w t low h =
           (slot-stays v cs c x (f page) (f' page) (fewer-as v cs c w) (t.others page low y.1) h)
     ]
 
-pub slot-lost : (v : ℕ) (cs : List RootsCall) (c : RootsCall) (index : ℕ) (x : Option Filling) (f f' : ℕ → Option Slot) (page : ℕ) → AsMany v cs c → LosesDir f f' index → page < 2 ^ 20 → IsSlot v cs x (f page)
+pub slot-lost : (v : ℕ) (cs : List RootsCall) (c : RootsCall) (index : ℕ) (x : Option Filling) (f f' : ℕ → Option Slot) (page : ℕ)
+    → AsMany v cs c → LosesDir f f' index → page < 2 ^ 20 → IsSlot v cs x (f page)
     → IsSlot v (cs ++ c ∷ []) (filling_after (DropDir index) (length cs) page x) (f' page)
 slot-lost v cs c index x f f' page w t low h =
     elim (eqb_tells (page / 1024) index) [

@@ -80,7 +80,8 @@ module _ (ws : List ℕ) (q r w : ℕ) (b : Bool) (in_list : q < length ws) (in_
       rw e (spread-get (set ws q w) q r in_word ∙ ap (λ v. nat_eq (bit_at v r) 1) (get_or-set_same ws q w 0 in_list) ∙ there
       ∙ sym (get_or-set_same (spread ws) (64 * q + r) b false inside))
   at-word i l (inr n) =
-      spread-get (set ws q w) q i l ∙ ap (λ v. nat_eq (bit_at v i) 1) (get_or-set_same ws q w 0 in_list) ∙ ap (λ v. nat_eq v 1) (others i l n)
+      spread-get (set ws q w) q i l ∙ ap (λ v. nat_eq (bit_at v i) 1) (get_or-set_same ws q w 0 in_list)
+      ∙ ap (λ v. nat_eq v 1) (others i l n)
       ∙ sym (spread-get ws q i l) ∙ sym (get_or-set_other (spread ws) (64 * q + r) (64 * q + i) b false (λ e. n (omega (arith, e))))
 
   at : (p i : ℕ) → i < 64 → (p ≡ q) ⊎ (p ≢ q)
@@ -88,7 +89,8 @@ module _ (ws : List ℕ) (q r w : ℕ) (b : Bool) (in_list : q < length ws) (in_
   at p i l (inl e) = rw e (at-word i l (tell i r))
   at p i l (inr n) =
       spread-get (set ws q w) p i l ∙ ap (λ v. nat_eq (bit_at v i) 1) (get_or-set_other ws q p w 0 n)
-      ∙ sym (spread-get ws p i l) ∙ sym (get_or-set_other (spread ws) (64 * q + r) (64 * p + i) b false (λ e. n (omega (arith, e, l, in_word))))
+      ∙ sym (spread-get ws p i l)
+      ∙ sym (get_or-set_other (spread ws) (64 * q + r) (64 * p + i) b false (λ e. n (omega (arith, e, l, in_word))))
 
   pub one-changed : spread (set ws q w) ≡ set (spread ws) (64 * q + r) b
   one-changed =
@@ -98,4 +100,5 @@ module _ (ws : List ℕ) (q r w : ℕ) (b : Bool) (in_list : q < length ws) (in_
       in
       ext_get_or false (spread other) changed size (λ i l.
       let e : i ≡ 64 * (i / 64) + i % 64 = omega arith in
-      subst (λ (k : ℕ). get_or (spread other) k false ≡ get_or changed k false) (sym e) (at (i / 64) (i % 64) (omega arith) (tell (i / 64) q)))
+      subst (λ (k : ℕ). get_or (spread other) k false ≡ get_or changed k false) (sym e)
+      (at (i / 64) (i % 64) (omega arith) (tell (i / 64) q)))

@@ -17,7 +17,8 @@ use Rattle.shadow_cache.proofs.Since.{pairs-more}
 
 -- ---- all frames but one
 
-one-but : (b : Bool) (f g : ℕ) (gs rest : List ℕ) → is_among f (cond b rest (g ∷ rest)) ≡ true → (is_among f rest ≡ true → is_among f gs ≡ true) → is_among f (g ∷ gs) ≡ true
+one-but : (b : Bool) (f g : ℕ) (gs rest : List ℕ) → is_among f (cond b rest (g ∷ rest)) ≡ true
+    → (is_among f rest ≡ true → is_among f gs ≡ true) → is_among f (g ∷ gs) ≡ true
 one-but true f g gs rest e h = or_right (eqb f g) (is_among f gs) (h e)
 one-but false f g gs rest e h = or-less (eqb f g) (is_among f rest) (is_among f gs) e h
 
@@ -49,11 +50,13 @@ all-but-other f frame (g ∷ gs) n =
 
 -- ---- no more tables than before
 
-stale-less : (b : Bool) (frame : ℕ) (p : Past) (f : ℕ) → is_among f (cond b (record p { tables = all_but frame p.tables; stale = true }) p).tables ≡ true → is_among f p.tables ≡ true
+stale-less : (b : Bool) (frame : ℕ) (p : Past) (f : ℕ)
+    → is_among f (cond b (record p { tables = all_but frame p.tables; stale = true }) p).tables ≡ true → is_among f p.tables ≡ true
 stale-less true frame p f e = all-but-less f frame p.tables e
 stale-less false frame p f e = e
 
-one-less : (b : Bool) (p : Past) (qs ps : List Past) (f : ℕ) → is_table (cond b (p ∷ qs) qs) f ≡ true → (is_table qs f ≡ true → is_table ps f ≡ true) → is_table (p ∷ ps) f ≡ true
+one-less : (b : Bool) (p : Past) (qs ps : List Past) (f : ℕ) → is_table (cond b (p ∷ qs) qs) f ≡ true
+    → (is_table qs f ≡ true → is_table ps f ≡ true) → is_table (p ∷ ps) f ≡ true
 one-less true p qs ps f e h = or-less (is_among f p.tables) (is_table qs f) (is_table ps f) e h
 one-less false p qs ps f e h = or_right (is_among f p.tables) (is_table ps f) (h e)
 
@@ -66,7 +69,8 @@ take-less zero ps f e = cc
 take-less (suc n) [] f e = e
 take-less (suc n) (p ∷ ps) f e = or-less (is_among f p.tables) (is_table (take n ps) f) (is_table ps f) e (take-less n ps f)
 
-rest-less : (b : Bool) (p : Past) (qs ps : List Past) (f : ℕ) → is_table (cond b ps (p ∷ qs)) f ≡ true → (is_table qs f ≡ true → is_table ps f ≡ true) → is_table (p ∷ ps) f ≡ true
+rest-less : (b : Bool) (p : Past) (qs ps : List Past) (f : ℕ) → is_table (cond b ps (p ∷ qs)) f ≡ true
+    → (is_table qs f ≡ true → is_table ps f ≡ true) → is_table (p ∷ ps) f ≡ true
 rest-less true p qs ps f e h = or_right (is_among f p.tables) (is_table ps f) e
 rest-less false p qs ps f e h = or-less (is_among f p.tables) (is_table qs f) (is_table ps f) e h
 
@@ -74,7 +78,8 @@ but-less : (v : ℕ) (ps : List Past) (f : ℕ) → is_table (but_value v ps) f 
 but-less v [] f e = e
 but-less v (p ∷ ps) f e = rest-less (eqb p.value v) p (but_value v ps) ps f e (but-less v ps f)
 
-one-of : (b : Bool) (p q : Past) (o : Option Past) (ps : List Past) (f : ℕ) → cond b (Some p) o ≡ Some q → is_among f q.tables ≡ true → (o ≡ Some q → is_table ps f ≡ true) → is_table (p ∷ ps) f ≡ true
+one-of : (b : Bool) (p q : Past) (o : Option Past) (ps : List Past) (f : ℕ) → cond b (Some p) o ≡ Some q → is_among f q.tables ≡ true
+    → (o ≡ Some q → is_table ps f ≡ true) → is_table (p ∷ ps) f ≡ true
 one-of true p q o ps f e t h = or_left (is_among f p.tables) (is_table ps f) (ap (λ (x : Past). is_among f x.tables) (same_Some p q e) ∙ t)
 one-of false p q o ps f e t h = or_right (is_among f p.tables) (is_table ps f) (h e)
 
@@ -86,9 +91,11 @@ either : (a b c : Bool) → (a || b) ≡ true → (a ≡ true → c ≡ true) �
 either true b c e g h = g refl
 either false b c e g h = h e
 
-front-less : (v : ℕ) (ps : List Past) (f : ℕ) (o : Option Past) → of_value v ps ≡ o → is_table (with_front v ps o) f ≡ true → is_table ps f ≡ true
+front-less : (v : ℕ) (ps : List Past) (f : ℕ) (o : Option Past) → of_value v ps ≡ o → is_table (with_front v ps o) f ≡ true
+    → is_table ps f ≡ true
 front-less v ps f None e t = take-less 7 ps f t
-front-less v ps f (Some q) e t = either (is_among f q.tables) (is_table (but_value v ps) f) (is_table ps f) t (of-less v ps q f e) (but-less v ps f)
+front-less v ps f (Some q) e t =
+    either (is_among f q.tables) (is_table (but_value v ps) f) (is_table ps f) t (of-less v ps q f e) (but-less v ps f)
 
 unmarked-less-by : (b : Bool) (p : Past) (ps : List Past) (f : ℕ) → is_table (cond b ps (p ∷ ps)) f ≡ true → is_table (p ∷ ps) f ≡ true
 unmarked-less-by true p ps f e = or_right (is_among f p.tables) (is_table ps f) e
@@ -101,17 +108,20 @@ unmarked-less (p ∷ ps) f e = unmarked-less-by p.stale p ps f e
 abbrev pub Fewer : ℕ → List RootsCall → RootsCall → Type 0
 Fewer v cs c = (f : ℕ) → is_table (pairs_after v (cs ++ c ∷ [])) f ≡ true → is_table (pairs_after v cs) f ≡ true
 
-from-more : (v : ℕ) (cs : List RootsCall) (c : RootsCall) → ((f : ℕ) → is_table (after_call (length cs) c (pairs_after v cs)) f ≡ true → is_table (pairs_after v cs) f ≡ true) → Fewer v cs c
+from-more : (v : ℕ) (cs : List RootsCall) (c : RootsCall)
+    → ((f : ℕ) → is_table (after_call (length cs) c (pairs_after v cs)) f ≡ true → is_table (pairs_after v cs) f ≡ true) → Fewer v cs c
 from-more v cs c h = λ f e. h f (sym (ap (λ (ps : List Past). is_table ps f) (pairs-more v cs c)) ∙ e)
 
 pub fewer-switch : (v : ℕ) (cs : List RootsCall) (value : ℕ) → Fewer v cs (Switch value)
 fewer-switch v cs value =
-    from-more v cs (Switch value) (λ f e. (let ps = pairs_after v cs in unmarked-less ps f (front-less value (unmarked ps) f (of_value value (unmarked ps)) refl e)))
+    from-more v cs (Switch value)
+    (λ f e. (let ps = pairs_after v cs in unmarked-less ps f (front-less value (unmarked ps) f (of_value value (unmarked ps)) refl e)))
 
 written-less : (n frame : ℕ) (ps : List Past) (f : ℕ) → is_table (after_shared n (Written frame) ps) f ≡ true → is_table ps f ≡ true
 written-less n frame [] f e = e
 written-less n frame (p ∷ ps) f e =
-    either_less (is_among f (marked_at frame p).tables) (is_table (filter (λ (q : Past). not (is_among frame q.tables)) ps) f) (is_among f p.tables) (is_table ps f)
+    either_less (is_among f (marked_at frame p).tables) (is_table (filter (λ (q : Past). not (is_among frame q.tables)) ps) f)
+    (is_among f p.tables) (is_table ps f)
     (stale-less (is_among frame p.tables) frame p f) (filter-less (λ (q : Past). not (is_among frame q.tables)) ps f) e
 
 pub fewer-written : (v : ℕ) (cs : List RootsCall) (frame : ℕ) → Fewer v cs (Shared (Written frame))
@@ -129,10 +139,12 @@ fewer-empty v cs = from-more v cs (Shared DropAll) (λ f e. empty-less (length c
 abbrev pub AsMany : ℕ → List RootsCall → RootsCall → Type 0
 AsMany v cs c = (f : ℕ) → is_table (pairs_after v (cs ++ c ∷ [])) f ≡ is_table (pairs_after v cs) f
 
-as-more : (v : ℕ) (cs : List RootsCall) (c : RootsCall) → ((f : ℕ) → is_table (after_call (length cs) c (pairs_after v cs)) f ≡ is_table (pairs_after v cs) f) → AsMany v cs c
+as-more : (v : ℕ) (cs : List RootsCall) (c : RootsCall)
+    → ((f : ℕ) → is_table (after_call (length cs) c (pairs_after v cs)) f ≡ is_table (pairs_after v cs) f) → AsMany v cs c
 as-more v cs c h = λ f. ap (λ (ps : List Past). is_table ps f) (pairs-more v cs c) ∙ h f
 
-fill-as : (n : ℕ) (side : Side) (entry : Entry) (wp : Bool) (ps : List Past) (f : ℕ) → is_table (after_shared n (Fill side entry wp) ps) f ≡ is_table ps f
+fill-as : (n : ℕ) (side : Side) (entry : Entry) (wp : Bool) (ps : List Past) (f : ℕ)
+    → is_table (after_shared n (Fill side entry wp) ps) f ≡ is_table ps f
 fill-as n side entry wp [] f = refl
 fill-as n side entry wp (p ∷ ps) f = refl
 
@@ -161,10 +173,12 @@ fewer-as v cs c h = λ f e. sym (h f) ∙ e
 abbrev pub OneMore : ℕ → List RootsCall → RootsCall → ℕ → Type 0
 OneMore v cs c frame = (f : ℕ) → is_table (pairs_after v (cs ++ c ∷ [])) f ≡ (eqb f frame || is_table (pairs_after v cs) f)
 
-note-one : (n frame : ℕ) (p : Past) (ps : List Past) (f : ℕ) → is_table (after_shared n (Note frame) (p ∷ ps)) f ≡ (eqb f frame || is_table (p ∷ ps) f)
+note-one : (n frame : ℕ) (p : Past) (ps : List Past) (f : ℕ) → is_table (after_shared n (Note frame) (p ∷ ps)) f
+    ≡ (eqb f frame || is_table (p ∷ ps) f)
 note-one n frame p ps f = or_assoc (eqb f frame) (is_among f p.tables) (is_table ps f)
 
-pub one-note : (v : ℕ) (cs : List RootsCall) (frame : ℕ) (p : Past) (ps : List Past) → pairs_after v cs ≡ p ∷ ps → OneMore v cs (Shared (Note frame)) frame
+pub one-note : (v : ℕ) (cs : List RootsCall) (frame : ℕ) (p : Past) (ps : List Past) → pairs_after v cs ≡ p ∷ ps
+    → OneMore v cs (Shared (Note frame)) frame
 one-note v cs frame p ps e = λ f.
     ap (λ (qs : List Past). is_table qs f) (pairs-more v cs (Shared (Note frame)))
     ∙ ap (λ (qs : List Past). is_table (after_shared (length cs) (Note frame) qs) f) e

@@ -24,15 +24,19 @@ record Filled (v : ℕ) (cs : List RootsCall) (done : List MadeCall) (page : ℕ
   last : LastFill done page fill.side fill.entry fill.wp fill.moment
   held : IsHeld v cs fill o
 
-some-kept : (v : ℕ) (cs : List RootsCall) (done : List MadeCall) (page : ℕ) (x : Option Filling) (o : Option Slot) (entry : Entry) → last_of done page ≡ x → IsSlot v cs x o → entry_in o ≡ Some entry → Filled v cs done page o
+some-kept : (v : ℕ) (cs : List RootsCall) (done : List MadeCall) (page : ℕ) (x : Option Filling) (o : Option Slot) (entry : Entry)
+    → last_of done page ≡ x → IsSlot v cs x o → entry_in o ≡ Some entry → Filled v cs done page o
 some-kept v cs done page None o entry l h e = absurd (none-some entry (sym (ap entry_in h) ∙ e))
 some-kept v cs done page (Some f) o entry l h e = record { fill = f; last = last-is done page f l; held = h }
 
-some-adequate : (v : ℕ) (cs : List RootsCall) (done : List MadeCall) (page : ℕ) (x : Option Filling) (o : Option Slot) (side : Side) (write : Bool) → last_of done page ≡ x → IsSlot v cs x o → is_adequate o side write ≡ true → Filled v cs done page o
+some-adequate : (v : ℕ) (cs : List RootsCall) (done : List MadeCall) (page : ℕ) (x : Option Filling) (o : Option Slot) (side : Side)
+    (write : Bool) → last_of done page ≡ x → IsSlot v cs x o → is_adequate o side write ≡ true → Filled v cs done page o
 some-adequate v cs done page None o side write l h e = absurd (false≢true (sym (ap (λ y. is_adequate y side write) h) ∙ e))
 some-adequate v cs done page (Some f) o side write l h e = record { fill = f; last = last-is done page f l; held = h }
 
-held-of : (v : ℕ) (cs : List RootsCall) (done : List MadeCall) (page : ℕ) (side : Side) (entry : Entry) (wp : Bool) (moment : ℕ) (o : Option Slot) → IsSlot v cs (last_of done page) o → LastFill done page side entry wp moment → IsHeld v cs (record { moment = moment; side = side; entry = entry; wp = wp }) o
+held-of : (v : ℕ) (cs : List RootsCall) (done : List MadeCall) (page : ℕ) (side : Side) (entry : Entry) (wp : Bool) (moment : ℕ)
+    (o : Option Slot) → IsSlot v cs (last_of done page) o → LastFill done page side entry wp moment
+    → IsHeld v cs (record { moment = moment; side = side; entry = entry; wp = wp }) o
 held-of v cs done page side entry wp moment o h l = subst (λ x. IsSlot v cs x o) (last-to done page side entry wp moment l) h
 
 -- ---- rights
@@ -41,13 +45,15 @@ record Reads (s side : Side) (entry : Entry) (wp : Bool) : Type 0 where
   same : s ≡ side
   passes : permits side entry false wp ≡ true
 
-reads-from : (b : Bool) (s side : Side) (entry : Entry) (wp : Bool) → is_adequate (Some (filled b s entry wp)) side false ≡ true → Reads s side entry wp
+reads-from : (b : Bool) (s side : Side) (entry : Entry) (wp : Bool) → is_adequate (Some (filled b s entry wp)) side false ≡ true
+    → Reads s side entry wp
 reads-from b Kernel Kernel entry wp h = record { same = refl; passes = h }
 reads-from b Kernel User entry wp h = absurd (false≢true h)
 reads-from b User Kernel entry wp h = absurd (false≢true h)
 reads-from b User User entry wp h = record { same = refl; passes = h }
 
-reads-to : (b : Bool) (side : Side) (entry : Entry) (wp : Bool) → permits side entry false wp ≡ true → is_adequate (Some (filled b side entry wp)) side false ≡ true
+reads-to : (b : Bool) (side : Side) (entry : Entry) (wp : Bool) → permits side entry false wp ≡ true
+    → is_adequate (Some (filled b side entry wp)) side false ≡ true
 reads-to b Kernel entry wp h = h
 reads-to b User entry wp h = h
 
@@ -56,17 +62,21 @@ record Writes (b : Bool) (s side : Side) (entry : Entry) (wp : Bool) : Type 0 wh
   free : b ≡ false
   passes : permits side entry true wp ≡ true
 
-writes-from : (b : Bool) (s side : Side) (entry : Entry) (wp : Bool) → is_adequate (Some (filled b s entry wp)) side true ≡ true → Writes b s side entry wp
-writes-from b Kernel Kernel entry wp h = record { same = refl; free = not-first b (permits Kernel entry true wp) h; passes = only-less b (permits Kernel entry true wp) h }
+writes-from : (b : Bool) (s side : Side) (entry : Entry) (wp : Bool) → is_adequate (Some (filled b s entry wp)) side true ≡ true
+    → Writes b s side entry wp
+writes-from b Kernel Kernel entry wp h =
+    record { same = refl; free = not-first b (permits Kernel entry true wp) h; passes = only-less b (permits Kernel entry true wp) h }
 writes-from b Kernel User entry wp h = absurd (false≢true h)
 writes-from b User Kernel entry wp h = absurd (false≢true h)
-writes-from b User User entry wp h = record { same = refl; free = not-first b (permits User entry true wp) h; passes = only-less b (permits User entry true wp) h }
+writes-from b User User entry wp h =
+    record { same = refl; free = not-first b (permits User entry true wp) h; passes = only-less b (permits User entry true wp) h }
 
 not-both : (b p : Bool) → b ≡ false → p ≡ true → (not b && p) ≡ true
 not-both true p e f = absurd (false≢true (sym e))
 not-both false p e f = f
 
-writes-to : (b : Bool) (side : Side) (entry : Entry) (wp : Bool) → b ≡ false → permits side entry true wp ≡ true → is_adequate (Some (filled b side entry wp)) side true ≡ true
+writes-to : (b : Bool) (side : Side) (entry : Entry) (wp : Bool) → b ≡ false → permits side entry true wp ≡ true
+    → is_adequate (Some (filled b side entry wp)) side true ≡ true
 writes-to b Kernel entry wp e h = not-both b (permits Kernel entry true wp) e h
 writes-to b User entry wp e h = not-both b (permits User entry true wp) e h
 
@@ -85,8 +95,14 @@ module _ (v : ℕ) (cs : List RootsCall) (done : List MadeCall) (page : ℕ) (o 
   reads-of : (side : Side) → is_adequate o side false ≡ true → MayRead done page side
   reads-of side e =
       let f = some-adequate v cs done page (last_of done page) o side false refl h e in
-      let r = reads-from f.held.barred f.fill.side side f.fill.entry f.fill.wp (sym (ap (λ x. is_adequate x side false) f.held.slot) ∙ e) in
-      (f.fill.entry, f.fill.wp, f.fill.moment, subst (λ s. LastFill done page s f.fill.entry f.fill.wp f.fill.moment) r.same f.last, r.passes)
+      let r =
+      reads-from f.held.barred f.fill.side side f.fill.entry f.fill.wp (sym (ap (λ x. is_adequate x side false) f.held.slot) ∙ e) in (
+        f.fill.entry,
+        f.fill.wp,
+        f.fill.moment,
+        subst (λ s. LastFill done page s f.fill.entry f.fill.wp f.fill.moment) r.same f.last,
+        r.passes,
+      )
 
   reads-in : (side : Side) → MayRead done page side → is_adequate o side false ≡ true
   reads-in side k =
@@ -96,8 +112,15 @@ module _ (v : ℕ) (cs : List RootsCall) (done : List MadeCall) (page : ℕ) (o 
   writes-of : (side : Side) → is_adequate o side true ≡ true → MayWrite v cs done page side
   writes-of side e =
       let f = some-adequate v cs done page (last_of done page) o side true refl h e in
-      let r = writes-from f.held.barred f.fill.side side f.fill.entry f.fill.wp (sym (ap (λ x. is_adequate x side true) f.held.slot) ∙ e) in
-      (f.fill.entry, f.fill.wp, f.fill.moment, subst (λ s. LastFill done page s f.fill.entry f.fill.wp f.fill.moment) r.same f.last, r.passes, f.held.free r.free)
+      let r =
+      writes-from f.held.barred f.fill.side side f.fill.entry f.fill.wp (sym (ap (λ x. is_adequate x side true) f.held.slot) ∙ e) in (
+        f.fill.entry,
+        f.fill.wp,
+        f.fill.moment,
+        subst (λ s. LastFill done page s f.fill.entry f.fill.wp f.fill.moment) r.same f.last,
+        r.passes,
+        f.held.free r.free,
+      )
 
   writes-in : (side : Side) → MayWrite v cs done page side → is_adequate o side true ≡ true
   writes-in side k =
@@ -128,13 +151,15 @@ pasts-of v cs [] (p ∷ ps) m a = a
 pasts-of v cs (q ∷ qs) [] m a = a
 pasts-of v cs (q ∷ qs) (p ∷ ps) m a = (past-of v cs q p m a.0, pasts-of v cs qs ps m a.1)
 
-pub present-of : (v : ℕ) (cs : List RootsCall) (qs : List Past) (p : Pair) (ps : List Pair) (m : List ℕ) → AllAgree v cs qs (p ∷ ps) m → (page : ℕ) → page < 2 ^ 20 → IsKeptAs v cs (done_in qs) page (slot_at p.shadow m page)
+pub present-of : (v : ℕ) (cs : List RootsCall) (qs : List Past) (p : Pair) (ps : List Pair) (m : List ℕ) → AllAgree v cs qs (p ∷ ps) m
+    → (page : ℕ) → page < 2 ^ 20 → IsKeptAs v cs (done_in qs) page (slot_at p.shadow m page)
 present-of v cs [] p ps m a page l = absurd a
 present-of v cs (q ∷ qs) p ps m a page l = kept-as v cs q.calls page (slot_at p.shadow m page) (a.0.slots page l)
 
 -- ---- the frames
 
-pub all-few : (v : ℕ) (cs : List RootsCall) (qs : List Past) (ps : List Pair) (m : List ℕ) → AllAgree v cs qs ps m → length (frames_of ps m) ≤ most_frames qs
+pub all-few : (v : ℕ) (cs : List RootsCall) (qs : List Past) (ps : List Pair) (m : List ℕ) → AllAgree v cs qs ps m
+    → length (frames_of ps m) ≤ most_frames qs
 all-few v cs [] [] m a = let e = ap (λ (fs : List ℕ). length fs) (none-frames m) in omega (arith, e)
 all-few v cs [] (p ∷ ps) m a = absurd a
 all-few v cs (q ∷ qs) [] m a = absurd a

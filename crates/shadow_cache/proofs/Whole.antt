@@ -10,13 +10,15 @@ use Rattle.shadow_cache.specs.declared.call_lists.RootsCall.TheVariants.{Shared,
 use Rattle.shadow_cache.proofs.Since.{calls-none, calls-cons, pairs-are}
 use Rattle.shadow_cache.proofs.Apart.{of-is, filter-none, filter-apart, unmarked-apart, switch-apart, filter-few, switch-few, unmarked-few}
 
-pub calls-keep : (P : List Past → Type 0) → ((n : ℕ) (c : RootsCall) (ps : List Past) → P ps → P (after_call n c ps)) → (n : ℕ) (cs : List RootsCall) (ps : List Past) → P ps → P (after_calls n cs ps)
+pub calls-keep : (P : List Past → Type 0) → ((n : ℕ) (c : RootsCall) (ps : List Past) → P ps → P (after_call n c ps))
+    → (n : ℕ) (cs : List RootsCall) (ps : List Past) → P ps → P (after_calls n cs ps)
 calls-keep P h n [] ps p = subst P (sym (calls-none n ps)) p
 calls-keep P h n (c ∷ cs) ps p = subst P (sym (calls-cons n c cs ps)) (calls-keep P h (suc n) cs (after_call n c ps) (h n c ps p))
 
 -- ---- no two have one value
 
-pub stale-value : (b : Bool) (frame : ℕ) (q : Past) → (cond b (record q { tables = all_but frame q.tables; stale = true }) q).value ≡ q.value
+pub stale-value : (b : Bool) (frame : ℕ) (q : Past)
+    → (cond b (record q { tables = all_but frame q.tables; stale = true }) q).value ≡ q.value
 stale-value true frame q = refl
 stale-value false frame q = refl
 
@@ -28,8 +30,10 @@ shared-apart n (DropDir index) (p ∷ ps) a = a
 shared-apart n DropAll (p ∷ ps) a = (refl, tt)
 shared-apart n (Note frame) (p ∷ ps) a = a
 shared-apart n (Written frame) (p ∷ ps) a =
-    let t : Past → Bool = λ q. not (is_among frame q.tables) in
-    (ap (λ x. has_value x (filter t ps)) (stale-value (is_among frame p.tables) frame p) ∙ filter-none t ps p.value a.0, filter-apart t ps a.1)
+    let t : Past → Bool = λ q. not (is_among frame q.tables) in (
+      ap (λ x. has_value x (filter t ps)) (stale-value (is_among frame p.tables) frame p) ∙ filter-none t ps p.value a.0,
+      filter-apart t ps a.1,
+    )
 
 pub call-apart : (n : ℕ) (c : RootsCall) (ps : List Past) → AreApart ps → AreApart (after_call n c ps)
 call-apart n (Shared c) ps a = shared-apart n c ps a
@@ -54,7 +58,8 @@ call-few n (Shared c) ps l = shared-few n c ps l
 call-few n (Switch v) ps l = switch-few v (unmarked ps) (let e = unmarked-few ps in omega (arith, e, l))
 
 pub pairs-few : (v : ℕ) (cs : List RootsCall) → length (pairs_after v cs) ≤ 8
-pairs-few v cs = subst (λ (ps : List Past). length ps ≤ 8) (sym (pairs-are v cs)) (calls-keep (λ (ps : List Past). length ps ≤ 8) call-few 0 cs (begun v ∷ []) (omega arith))
+pairs-few v cs = subst (λ (ps : List Past). length ps ≤ 8) (sym (pairs-are v cs))
+    (calls-keep (λ (ps : List Past). length ps ≤ 8) call-few 0 cs (begun v ∷ []) (omega arith))
 
 -- ---- the present one
 
@@ -71,9 +76,11 @@ front-present : (v : ℕ) (ps : List Past) (o : Option Past) → of_value v ps �
 front-present v ps None e = refl
 front-present v ps (Some q) e = ap (λ x. Some x) (of-is v ps q e)
 
-calls-present : (n : ℕ) (cs : List RootsCall) (ps : List Past) (v : ℕ) → present_value ps ≡ Some v → present_value (after_calls n cs ps) ≡ Some (loaded v cs)
+calls-present : (n : ℕ) (cs : List RootsCall) (ps : List Past) (v : ℕ) → present_value ps ≡ Some v
+    → present_value (after_calls n cs ps) ≡ Some (loaded v cs)
 calls-present n [] ps v e = ap present_value (calls-none n ps) ∙ e
-calls-present n (Shared c ∷ cs) ps v e = ap present_value (calls-cons n (Shared c) cs ps) ∙ calls-present (suc n) cs (after_shared n c ps) v (shared-present n c ps v e)
+calls-present n (Shared c ∷ cs) ps v e =
+    ap present_value (calls-cons n (Shared c) cs ps) ∙ calls-present (suc n) cs (after_shared n c ps) v (shared-present n c ps v e)
 calls-present n (Switch w ∷ cs) ps v e =
     ap present_value (calls-cons n (Switch w) cs ps)
     ∙ calls-present (suc n) cs (after_switch w (unmarked ps)) w (front-present w (unmarked ps) (of_value w (unmarked ps)) refl)

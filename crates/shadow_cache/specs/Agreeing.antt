@@ -54,7 +54,8 @@ pub record Agrees (value : ℕ) (calls : List RootsCall) (q : Past) (p : Pair) (
   pub tables : (frame : ℕ) → reads p frame ≡ is_among frame q.tables
   pub mark : p.stale ≡ q.stale
   pub slots : (page : ℕ) → page < 2 ^ 20 → IsSlot value calls (last_of q.calls page) (slot_at p.shadow m page)
-  pub has_tables_under : (place : DirSlot) → is_place place q.places ≡ true → (place.index < 1024) × HasTable p.shadow m place.side place.index
+  pub has_tables_under : (place : DirSlot) → is_place place q.places ≡ true → (place.index < 1024)
+      × HasTable p.shadow m place.side place.index
   pub few : length (held p.shadow m) ≤ 2 + length q.places
 
 abbrev pub AllAgree : ℕ → List RootsCall → List Past → List Pair → List ℕ → Type 0

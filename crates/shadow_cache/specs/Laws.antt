@@ -80,7 +80,8 @@ pub frames-cons : (p : Pair) (ps : List Pair) (m : List ℕ) → frames_of (p �
 unfolding frames_of
 frames-cons p ps m = refl
 
-pub times-frames : (f : ℕ) (p : Pair) (ps : List Pair) (m : List ℕ) → times f (frames_of (p ∷ ps) m) ≡ times f (held p.shadow m) + times f (frames_of ps m)
+pub times-frames : (f : ℕ) (p : Pair) (ps : List Pair) (m : List ℕ) → times f (frames_of (p ∷ ps) m) ≡ times f (held p.shadow m)
+    + times f (frames_of ps m)
 times-frames f p ps m = ap (times f) (frames-cons p ps m) ∙ times-append f (held p.shadow m) (frames_of ps m)
 
 pub same-first : (p : Pair) (ps : List Pair) (m m' : List ℕ) → SameIn (frames_of (p ∷ ps) m) m m' → SameIn (held p.shadow m) m m'
@@ -114,7 +115,8 @@ kept-shadows (p ∷ ps) m m' k = (k.0, kept-shadows ps m m' k.3)
 pub kept-frames : (ps : List Pair) (m m' : List ℕ) → AreKept ps m m' → frames_of ps m' ≡ frames_of ps m
 unfolding frames_of
 kept-frames [] m m' k = refl
-kept-frames (p ∷ ps) m m' k = ap (λ (fs : List ℕ). fs ++ frames_of ps m') k.1 ∙ ap (λ (fs : List ℕ). held p.shadow m ++ fs) (kept-frames ps m m' k.3)
+kept-frames (p ∷ ps) m m' k =
+    ap (λ (fs : List ℕ). fs ++ frames_of ps m') k.1 ∙ ap (λ (fs : List ℕ). held p.shadow m ++ fs) (kept-frames ps m m' k.3)
 
 pub bars-same : (test : ℕ → Bool) (f f' : ℕ → Option Slot) → SameSlots f f' → BarsWrites test f → BarsWrites test f'
 bars-same test f f' s b = λ page slot l e t. b page slot l (sym (s page l) ∙ e) t
@@ -141,7 +143,11 @@ places-above : (f n : ℕ) (bits : List Bool) → f < n → is_among f (places_f
 unfolding places_from
 places-above f n [] l = refl
 places-above f n (true ∷ bs) l =
-    elim (eqb_tells f n) [ inl t ↦ absurd (let e = t.1 in omega (arith, e, l)) | inr t ↦ ap (λ b. b || is_among f (places_from (suc n) bs)) t.0 ∙ places-above f (suc n) bs (omega (arith, l)) ]
+    elim (eqb_tells f n) [
+      | inl t ↦ absurd (let e = t.1 in omega (arith, e, l))
+      | inr t ↦ ap (λ b. b || is_among f (places_from (suc n) bs))
+          t.0 ∙ places-above f (suc n) bs (omega (arith, l))
+    ]
 places-above f n (false ∷ bs) l = places-above f (suc n) bs (omega (arith, l))
 
 places-are : (f n i : ℕ) (bits : List Bool) → f ≡ n + i → is_among f (places_from n bits) ≡ get_or bits i false
@@ -164,11 +170,13 @@ tables-any (p ∷ ps) f =
     ∙ ap (λ b. b || is_among f (tables_of ps)) (places-are f 0 f p.tables (omega arith))
     ∙ ap (λ b. reads p f || b) (tables-any ps f)
 
-any-roots : (frame : ℕ) (ps : List Pair) (m : List ℕ) → list_any (λ (a : OtherRoot). a.tables frame) (of_roots (other_roots_of ps m)) ≡ any_reads ps frame
+any-roots : (frame : ℕ) (ps : List Pair) (m : List ℕ) → list_any (λ (a : OtherRoot). a.tables frame) (of_roots (other_roots_of ps m))
+    ≡ any_reads ps frame
 any-roots frame [] m = refl
 any-roots frame (p ∷ ps) m = ap (λ b. reads p frame || b) (any-roots frame ps m)
 
-pub protects-is : (p : Pair) (ps : List Pair) (m : List ℕ) (f : ℕ → Option Slot) (frame : ℕ) → is_among frame (tables_of (p ∷ ps)) ≡ protects (seen_of f (reads p) p.stale (Some p.cr3) (other_roots_of ps m)) frame
+pub protects-is : (p : Pair) (ps : List Pair) (m : List ℕ) (f : ℕ → Option Slot) (frame : ℕ)
+    → is_among frame (tables_of (p ∷ ps)) ≡ protects (seen_of f (reads p) p.stale (Some p.cr3) (other_roots_of ps m)) frame
 protects-is p ps m f frame = tables-any (p ∷ ps) frame ∙ sym (ap (λ b. reads p frame || b) (any-roots frame ps m))
 
 -- ---- the laws
@@ -184,17 +192,21 @@ two p ps m =
 shadow : (p : Pair) (ps : List Pair) (m : List ℕ) → ∥ IsRoots (p ∷ ps) m ∥₁ → ∥ IsShadow p.shadow m ∥₁
 shadow p ps m h = ∥∥₁_map h (λ x. x.shadows.0)
 
-pub walked : (p : Pair) (ps : List Pair) (m : List ℕ) (side : Side) (page f : ℕ) → ∥ IsRoots (p ∷ ps) m ∥₁ → page < 2 ^ 20 → 1 ≤ times f (walk_frames m (root_of p.shadow side) page) → 1 ≤ times f (frames_of (p ∷ ps) m)
+pub walked : (p : Pair) (ps : List Pair) (m : List ℕ) (side : Side) (page f : ℕ) → ∥ IsRoots (p ∷ ps) m ∥₁ → page < 2 ^ 20
+    → 1 ≤ times f (walk_frames m (root_of p.shadow side) page) → 1 ≤ times f (frames_of (p ∷ ps) m)
 walked p ps m side page f h l i =
     let a = below.walked p.shadow m side page f (shadow p ps m h) l i in let t = times-frames f p ps m in omega (arith, a, t)
 
-pub host : (p : Pair) (ps : List Pair) (m : List ℕ) (n : ℕ) (side : Side) (page : ℕ) (write : Bool) → ∥ IsRoots (p ∷ ps) m ∥₁ → 4096 * n ≡ length m → page < 2 ^ 20 → reached m n (root_of p.shadow side) page write ≡ lent n (slot_at p.shadow m page) side write
+pub host : (p : Pair) (ps : List Pair) (m : List ℕ) (n : ℕ) (side : Side) (page : ℕ) (write : Bool) → ∥ IsRoots (p ∷ ps) m ∥₁
+    → 4096 * n ≡ length m → page < 2 ^ 20 → reached m n (root_of p.shadow side) page write ≡ lent n (slot_at p.shadow m page) side write
 host p ps m n side page write h e l = below.host p.shadow m n side page write (shadow p ps m h) e l
 
-pub fits : (p : Pair) (ps : List Pair) (m : List ℕ) (page : ℕ) (slot : Slot) → ∥ IsRoots (p ∷ ps) m ∥₁ → page < 2 ^ 20 → slot_at p.shadow m page ≡ Some slot → (slot.entry.page ≡ page) × (slot.entry.frame < 2 ^ 20)
+pub fits : (p : Pair) (ps : List Pair) (m : List ℕ) (page : ℕ) (slot : Slot) → ∥ IsRoots (p ∷ ps) m ∥₁ → page < 2 ^ 20
+    → slot_at p.shadow m page ≡ Some slot → (slot.entry.page ≡ page) × (slot.entry.frame < 2 ^ 20)
 fits p ps m page slot h l e = below.fits p.shadow m page slot (shadow p ps m h) l e
 
-pub barred : (p : Pair) (ps : List Pair) (m : List ℕ) (page : ℕ) (slot : Slot) → ∥ IsRoots (p ∷ ps) m ∥₁ → page < 2 ^ 20 → slot_at p.shadow m page ≡ Some slot → is_among slot.entry.frame (tables_of (p ∷ ps)) ≡ true → slot.writes ≡ false
+pub barred : (p : Pair) (ps : List Pair) (m : List ℕ) (page : ℕ) (slot : Slot) → ∥ IsRoots (p ∷ ps) m ∥₁ → page < 2 ^ 20
+    → slot_at p.shadow m page ≡ Some slot → is_among slot.entry.frame (tables_of (p ∷ ps)) ≡ true → slot.writes ≡ false
 barred p ps m page slot h l e t = (had (p ∷ ps) m h).barred.0 page slot l e (sym (tables-any (p ∷ ps) slot.entry.frame) ∙ t)
 
 pub stays : (ps : List Pair) (m m' : List ℕ) → ∥ IsRoots ps m ∥₁ → SameIn (frames_of ps m) m m' → ∥ IsRoots ps m' ∥₁
@@ -203,7 +215,8 @@ stays ps m m' h e = ∥∥₁_map h (λ x. roots-stay ps m m' x e)
 pub same-frames : (ps : List Pair) (m m' : List ℕ) → ∥ IsRoots ps m ∥₁ → SameIn (frames_of ps m) m m' → frames_of ps m' ≡ frames_of ps m
 same-frames ps m m' h e = kept-frames ps m m' (kept-same ps m m' (had ps m h).shadows e)
 
-pub same-slots : (p : Pair) (ps : List Pair) (m m' : List ℕ) → ∥ IsRoots (p ∷ ps) m ∥₁ → SameIn (frames_of (p ∷ ps) m) m m' → SameSlots (slot_at p.shadow m) (slot_at p.shadow m')
+pub same-slots : (p : Pair) (ps : List Pair) (m m' : List ℕ) → ∥ IsRoots (p ∷ ps) m ∥₁ → SameIn (frames_of (p ∷ ps) m) m m'
+    → SameSlots (slot_at p.shadow m) (slot_at p.shadow m')
 same-slots p ps m m' h e = (kept-same (p ∷ ps) m m' (had (p ∷ ps) m h).shadows e).2
 
 -- ---- what is kept for other values
@@ -212,7 +225,8 @@ pub same-kept : (ps : List Pair) (m m' : List ℕ) → AreKept ps m m' → AreSa
 same-kept [] m m' k = tt
 same-kept (p ∷ ps) m m' k = (record { cr3 = refl; tables = λ f. refl; slots = k.2 }, same-kept ps m m' k.3)
 
-pub same-other_roots : (p : Pair) (ps : List Pair) (m m' : List ℕ) → ∥ IsRoots (p ∷ ps) m ∥₁ → SameIn (frames_of (p ∷ ps) m) m m' → AreSame (other_roots_of ps m) (other_roots_of ps m')
+pub same-other_roots : (p : Pair) (ps : List Pair) (m m' : List ℕ) → ∥ IsRoots (p ∷ ps) m ∥₁ → SameIn (frames_of (p ∷ ps) m) m m'
+    → AreSame (other_roots_of ps m) (other_roots_of ps m')
 same-other_roots p ps m m' h e = same-kept ps m m' (kept-same (p ∷ ps) m m' (had (p ∷ ps) m h).shadows e).3
 
 all-fit : (ps : List Pair) (m : List ℕ) → AreShadows ps m → AllFit (other_roots_of ps m)
@@ -227,20 +241,26 @@ all-barred : (t u : ℕ → Bool) (ps : List Pair) (m : List ℕ) → ((f : ℕ)
 all-barred t u [] m i h = tt
 all-barred t u (p ∷ ps) m i h = (λ page slot l e y. h.0 page slot l e (sym (i slot.entry.frame) ∙ y), all-barred t u ps m i h.1)
 
-pub other_roots-barred : (p : Pair) (ps : List Pair) (m : List ℕ) → ∥ IsRoots (p ∷ ps) m ∥₁ → AllBarred (λ f. is_among f (tables_of (p ∷ ps))) (other_roots_of ps m)
-other_roots-barred p ps m h = all-barred (any_reads (p ∷ ps)) (λ f. is_among f (tables_of (p ∷ ps))) ps m (λ f. tables-any (p ∷ ps) f) (had (p ∷ ps) m h).barred.1
+pub other_roots-barred : (p : Pair) (ps : List Pair) (m : List ℕ) → ∥ IsRoots (p ∷ ps) m ∥₁
+    → AllBarred (λ f. is_among f (tables_of (p ∷ ps))) (other_roots_of ps m)
+other_roots-barred p ps m h =
+    all-barred (any_reads (p ∷ ps)) (λ f. is_among f (tables_of (p ∷ ps))) ps m (λ f. tables-any (p ∷ ps) f) (had (p ∷ ps) m h).barred.1
 
 pub read_from-write_protected : (p : Pair) (ps : List Pair) (frame : ℕ) → reads p frame ≡ true → is_among frame (tables_of (p ∷ ps)) ≡ true
 read_from-write_protected p ps frame e = tables-any (p ∷ ps) frame ∙ ap (λ b. b || any_reads ps frame) e
 
-all-write_protected : (t : ℕ → Bool) (ps : List Pair) (m : List ℕ) → ((f : ℕ) → any_reads ps f ≡ true → t f ≡ true) → AllProtected t (other_roots_of ps m)
+all-write_protected : (t : ℕ → Bool) (ps : List Pair) (m : List ℕ) → ((f : ℕ) → any_reads ps f ≡ true → t f ≡ true)
+    → AllProtected t (other_roots_of ps m)
 all-write_protected t [] m h = tt
-all-write_protected t (p ∷ ps) m h =
-    (λ f e. h f (ap (λ b. b || any_reads ps f) e), all-write_protected t ps m (λ f e. h f (ap (λ b. reads p f || b) e ∙ or-true (reads p f))))
+all-write_protected t (p ∷ ps) m h = (
+  λ f e. h f (ap (λ b. b || any_reads ps f) e),
+  all-write_protected t ps m (λ f e. h f (ap (λ b. reads p f || b) e ∙ or-true (reads p f))),
+)
 
 pub other_roots-write_protected : (p : Pair) (ps : List Pair) (m : List ℕ)
     → AllProtected (λ f. is_among f (tables_of (p ∷ ps))) (other_roots_of ps m)
-other_roots-write_protected p ps m = all-write_protected (λ f. is_among f (tables_of (p ∷ ps))) ps m (λ f e. tables-any (p ∷ ps) f ∙ (ap (λ b. reads p f || b) e ∙ or-true (reads p f)))
+other_roots-write_protected p ps m = all-write_protected (λ f. is_among f (tables_of (p ∷ ps))) ps m
+    (λ f e. tables-any (p ∷ ps) f ∙ (ap (λ b. reads p f || b) e ∙ or-true (reads p f)))
 
 other_roots-length : (ps : List Pair) (m : List ℕ) → length (other_roots_of ps m) ≡ length ps
 other_roots-length [] m = refl
@@ -251,18 +271,24 @@ few-other_roots p ps m h = let few = (had (p ∷ ps) m h).few in let e = other_r
 
 -- ---- for which directory indices tables are there
 
-all-same : (indices : ℕ → Bool) (ps : List Pair) (m m' : List ℕ) → SameIn (frames_of ps m) m m' → AllOpenedOnly indices ps m → AllOpenedOnly indices ps m'
+all-same : (indices : ℕ → Bool) (ps : List Pair) (m m' : List ℕ) → SameIn (frames_of ps m) m m' → AllOpenedOnly indices ps m
+    → AllOpenedOnly indices ps m'
 all-same indices [] m m' e h = tt
-all-same indices (p ∷ ps) m m' e h = (only-same indices p.shadow m m' (same-first p ps m m' e) h.0, all-same indices ps m m' (same-rest p ps m m' e) h.1)
+all-same indices (p ∷ ps) m m' e h =
+    (only-same indices p.shadow m m' (same-first p ps m m' e) h.0, all-same indices ps m m' (same-rest p ps m m' e) h.1)
 
-pub same-has_tables_under : (ps : List Pair) (m m' : List ℕ) (indices : ℕ → Bool) → SameIn (frames_of ps m) m m' → AllOpenedOnly indices ps m → AllOpenedOnly indices ps m'
+pub same-has_tables_under : (ps : List Pair) (m m' : List ℕ) (indices : ℕ → Bool) → SameIn (frames_of ps m) m m'
+    → AllOpenedOnly indices ps m → AllOpenedOnly indices ps m'
 same-has_tables_under ps m m' indices e h = all-same indices ps m m' e h
 
-pub wider-has_tables_under : (ps : List Pair) (m : List ℕ) (indices more : ℕ → Bool) → ((index : ℕ) → indices index ≡ true → more index ≡ true) → AllOpenedOnly indices ps m → AllOpenedOnly more ps m
+pub wider-has_tables_under : (ps : List Pair) (m : List ℕ) (indices more : ℕ → Bool)
+    → ((index : ℕ) → indices index ≡ true → more index ≡ true) → AllOpenedOnly indices ps m → AllOpenedOnly more ps m
 wider-has_tables_under [] m indices more w h = tt
-wider-has_tables_under (p ∷ ps) m indices more w h = (λ side index l t. w index (h.0 side index l t), wider-has_tables_under ps m indices more w h.1)
+wider-has_tables_under (p ∷ ps) m indices more w h =
+    (λ side index l t. w index (h.0 side index l t), wider-has_tables_under ps m indices more w h.1)
 
-all-sized : (ps : List Pair) (m : List ℕ) (indices : ℕ → Bool) (xs : List ℕ) → AllOpenedOnly indices ps m → ((index : ℕ) → index < 1024 → indices index ≡ true → is_member eqb xs index ≡ true) → (n : ℕ) → length ps ≤ n
+all-sized : (ps : List Pair) (m : List ℕ) (indices : ℕ → Bool) (xs : List ℕ) → AllOpenedOnly indices ps m
+    → ((index : ℕ) → index < 1024 → indices index ≡ true → is_member eqb xs index ≡ true) → (n : ℕ) → length ps ≤ n
     → length (frames_of ps m) ≤ n * (2 + 2 * distinct_count eqb xs)
 unfolding frames_of
 all-sized [] m indices xs h all n few = omega arith
@@ -277,6 +303,7 @@ all-sized (p ∷ ps) m indices xs h all (suc n) few =
     one-pair : (n k : ℕ) → suc n * k ≡ k + n * k
     one-pair n k = omega arith
 
-pub frames-sized : (p : Pair) (ps : List Pair) (m : List ℕ) (indices : ℕ → Bool) (xs : List ℕ) → ∥ IsRoots (p ∷ ps) m ∥₁ → AllOpenedOnly indices (p ∷ ps) m → ((index : ℕ) → index < 1024 → indices index ≡ true → is_member eqb xs index ≡ true)
+pub frames-sized : (p : Pair) (ps : List Pair) (m : List ℕ) (indices : ℕ → Bool) (xs : List ℕ) → ∥ IsRoots (p ∷ ps) m ∥₁
+    → AllOpenedOnly indices (p ∷ ps) m → ((index : ℕ) → index < 1024 → indices index ≡ true → is_member eqb xs index ≡ true)
     → length (frames_of (p ∷ ps) m) ≤ 8 * (2 + 2 * distinct_count eqb xs)
 frames-sized p ps m indices xs h only all = all-sized (p ∷ ps) m indices xs only all 8 (had (p ∷ ps) m h).few

@@ -40,7 +40,8 @@ AreSized (p ∷ ps) = (length p.tables ≡ 16384) × AreSized ps
 
 -- nothing that is kept gives a right to write to a frame of which the test is true
 abbrev pub BarsWrites : (ℕ → Bool) → (ℕ → Option Slot) → Type 0
-BarsWrites test slots = (page : ℕ) (slot : Slot) → page < 2 ^ 20 → slots page ≡ Some slot → test slot.entry.frame ≡ true → slot.writes ≡ false
+BarsWrites test slots =
+    (page : ℕ) (slot : Slot) → page < 2 ^ 20 → slots page ≡ Some slot → test slot.entry.frame ≡ true → slot.writes ≡ false
 
 abbrev pub AllBarWrites : (ℕ → Bool) → List Pair → List ℕ → Type 0
 AllBarWrites test [] m = Unit {0}

@@ -8,7 +8,8 @@ use Rattle.shadow_tables.specs.Slots.{Slot}
 -- are marked.
 abbrev pub put_by : Option ℕ → Bool → (ℕ → Bool) → (ℕ → Option Slot) → List OtherRoot → List OtherRoot
 put_by None stale tables slots other_roots = other_roots
-put_by (Some cr3) stale tables slots other_roots = if stale then other_roots else record { cr3 = cr3; tables = tables; slots = slots } ∷ other_roots
+put_by (Some cr3) stale tables slots other_roots =
+    if stale then other_roots else record { cr3 = cr3; tables = tables; slots = slots } ∷ other_roots
 
 -- the first of this value
 abbrev pub of_cr3 : ℕ → List OtherRoot → Option OtherRoot

@@ -53,14 +53,19 @@ takes-none false w = refl
 
 pub barred-read : (frame w : ℕ) → w / 2 % 2 ≢ 1 → barred_word frame w ≡ w
 barred-read frame w n =
-    elim (eqb_tells (w / 2 % 2) 1) [ inl t ↦ absurd (n t.1) | inr t ↦ ap (λ b. takes (eqb (w / 4096) frame) b w) t.0 ∙ takes-none (eqb (w / 4096) frame) w ]
+    elim (eqb_tells (w / 2 % 2) 1) [
+      | inl t ↦ absurd (n t.1)
+      | inr t ↦ ap (λ b. takes (eqb (w / 4096) frame) b w) t.0 ∙ takes-none
+          (eqb (w / 4096) frame) w
+    ]
 
 pub barred-zero : (frame w : ℕ) → w ≡ 0 → barred_word frame w ≡ 0
 barred-zero frame w e = barred-read frame w (λ h. absurd (omega (arith, e, h))) ∙ e
 
 -- the word loses its right, or is as it was
 abbrev Loses : ℕ → ℕ → Type 0
-Loses frame w = ((w / 4096 ≡ frame) × (w / 2 % 2 ≡ 1) × (barred_word frame w ≡ w - 2)) ⊎ (((w / 4096 ≢ frame) ⊎ (w / 2 % 2 ≢ 1)) × (barred_word frame w ≡ w))
+Loses frame w = ((w / 4096 ≡ frame) × (w / 2 % 2 ≡ 1) × (barred_word frame w ≡ w - 2))
+    ⊎ (((w / 4096 ≢ frame) ⊎ (w / 2 % 2 ≢ 1)) × (barred_word frame w ≡ w))
 
 loses : (frame w : ℕ) → Loses frame w
 loses frame w =
@@ -80,7 +85,12 @@ barred-marked frame w k =
           let bit = t.1 in
           let r = k.reads bit in
           let high : (w - 2) / 8 ≡ w / 8 = omega (arith, bit) in
-          subst IsMarked (sym t.2) (record { user = omega (arith, bit, user); reads = λ e. omega (arith, e, bit); plain = ap (λ x. x % 64) high ∙ k.plain; fits = omega (arith, fits) })
+          subst IsMarked (sym t.2) (record {
+            user = omega (arith, bit, user);
+            reads = λ e. omega (arith, e, bit);
+            plain = ap (λ x. x % 64) high ∙ k.plain;
+            fits = omega (arith, fits);
+          })
       | inr t ↦ subst IsMarked (sym t.1) k
     ]
 
@@ -90,7 +100,8 @@ marked-some w k = λ e. absurd (let user = k.user in omega (arith, user, e))
 -- ---- what a word keeps
 
 abbrev made : Side → ℕ → ℕ → Bool → Bool → Bool → Bool → Bool → Slot
-made side page f u w d r h = record { side = side; entry = record { page = page; frame = f; user = u; write = w; dirty = d }; reads = r; writes = h }
+made side page f u w d r h =
+    record { side = side; entry = record { page = page; frame = f; user = u; write = w; dirty = d }; reads = r; writes = h }
 
 made-parts : (side : Side) (page : ℕ) {f f' : ℕ} {u u' w w' d d' r r' h h' : Bool} → f ≡ f' → u ≡ u' → w ≡ w' → d ≡ d' → r ≡ r' → h ≡ h' →
     made side page f u w d r h ≡ made side page f' u' w' d' r' h'
@@ -125,7 +136,8 @@ same-writes frame w h =
       ]
     ]
 
-barred-slot : (side : Side) (page frame w : ℕ) → Some (slot_of side page (barred_word frame w)) ≡ barred (frame ∷ []) (Some (slot_of side page w))
+barred-slot : (side : Side) (page frame w : ℕ) → Some (slot_of side page (barred_word frame w)) ≡ barred (frame ∷ [])
+    (Some (slot_of side page w))
 barred-slot side page frame w =
     let out : Bool = has w 2 && not (eqb (w / 4096) frame || false) in
     elim (loses frame w) [
@@ -137,30 +149,37 @@ barred-slot side page frame w =
           let d : (w - 2) / 2048 ≡ w / 2048 = omega (arith, bit) in
           let r : (w - 2) % 2 ≡ w % 2 = omega (arith, bit) in
           ap (λ v. Some (slot_of side page v)) t.2
-          ∙ ap (λ (y : Slot). Some y) (made-parts side page f (bit-same _ _ 2 u) (bit-same _ _ 2 x) (bit-same _ _ 2 d) (ap (λ y. eqb y 1) r) (less-writes frame w t.0 bit))
+          ∙ ap (λ (y : Slot). Some y) (made-parts side page f (bit-same _ _ 2 u) (bit-same _ _ 2 x) (bit-same _ _ 2 d) (ap (λ y. eqb y 1) r)
+          (less-writes frame w t.0 bit))
       | inr t ↦
           ap (λ v. Some (slot_of side page v)) t.1
           ∙ ap (λ h. Some (made side page (w / 4096) (has w 512) (has w 1024) (has w 2048) (eqb (w % 2) 1) h)) (same-writes frame w t.0)
     ]
 
-barred-by : (page frame k u : ℕ) → (k ≢ 0 → IsMarked k) → (u ≢ 0 → IsMarked u) → by_words page (barred_word frame k) (barred_word frame u) ≡ barred (frame ∷ []) (by_words page k u)
+barred-by : (page frame k u : ℕ) → (k ≢ 0 → IsMarked k) → (u ≢ 0 → IsMarked u) → by_words page (barred_word frame k) (barred_word frame u)
+    ≡ barred (frame ∷ []) (by_words page k u)
 barred-by page frame zero zero a b = by-none page _ _ (barred-zero frame zero refl) (barred-zero frame zero refl)
 barred-by page frame zero (suc u) a b =
     let k = barred-marked frame (suc u) (b (λ e. omega (arith, e))) in
-    by-user page _ (barred_word frame (suc u)) (barred-zero frame zero refl) (marked-some (barred_word frame (suc u)) k) ∙ barred-slot User page frame (suc u)
+    by-user page _ (barred_word frame (suc u)) (barred-zero frame zero refl) (marked-some (barred_word frame (suc u)) k)
+    ∙ barred-slot User page frame (suc u)
 barred-by page frame (suc k) u a b =
     let m = barred-marked frame (suc k) (a (λ e. omega (arith, e))) in
-    by-kernel page (barred_word frame (suc k)) (barred_word frame u) (marked-some (barred_word frame (suc k)) m) ∙ barred-slot Kernel page frame (suc k)
+    by-kernel page (barred_word frame (suc k)) (barred_word frame u) (marked-some (barred_word frame (suc k)) m)
+    ∙ barred-slot Kernel page frame (suc k)
 
 -- ---- a page
 
 -- what a write by a root of the shadow gives
-pub put-in : (s : Shadow) (m n : List ℕ) (r k page frame : ℕ) → Holds m (held s m) → r ≡ k → IsIn k (roots s) → ((rs : List ℕ) → Holds m (owned m rs) → IsIn r rs → Puts m n rs r page (barred_word frame (at m r page))) → Puts m n (roots s) k page (barred_word frame (at m k page))
+pub put-in : (s : Shadow) (m n : List ℕ) (r k page frame : ℕ) → Holds m (held s m) → r ≡ k → IsIn k (roots s)
+    → ((rs : List ℕ) → Holds m (owned m rs) → IsIn r rs → Puts m n rs r page (barred_word frame (at m r page)))
+    → Puts m n (roots s) k page (barred_word frame (at m k page))
 put-in s m n r k page frame h e i puts =
     subst (λ x. Puts m n (roots s) x page (barred_word frame (at m x page))) e (puts (roots s) h (subst (λ x. IsIn x (roots s)) (sym e) i))
 
 module _ (s : Shadow) (m m1 m2 : List ℕ) (page frame : ℕ) (h : IsShadow s m) (l : page < 2 ^ 20)
-    (a : Puts m m1 (roots s) s.kernel page (barred_word frame (at m s.kernel page))) (b : Puts m1 m2 (roots s) s.user page (barred_word frame (at m1 s.user page))) where
+    (a : Puts m m1 (roots s) s.kernel page (barred_word frame (at m s.kernel page)))
+    (b : Puts m1 m2 (roots s) s.user page (barred_word frame (at m1 s.user page))) where
   bar-kernel : at m2 s.kernel page ≡ barred_word frame (at m s.kernel page)
   bar-kernel = b.others s.kernel page (in-kernel s) l (λ e q. roots-apart s m h.holds (sym e)) ∙ a.there
 
@@ -181,7 +200,8 @@ module _ (s : Shadow) (m m1 m2 : List ℕ) (page frame : ℕ) (h : IsShadow s m)
       elim (eqb_tells q page) [
         | inl t ↦
             ap (at m2 s.user) t.1 ∙ bar-user
-            ∙ barred-zero frame (at m s.user page) (h.apart page l (some-before (at m s.kernel page) (at m2 s.kernel q) (ap (at m2 s.kernel) t.1 ∙ bar-kernel) ne))
+            ∙ barred-zero frame (at m s.user page)
+            (h.apart page l (some-before (at m s.kernel page) (at m2 s.kernel q) (ap (at m2 s.kernel) t.1 ∙ bar-kernel) ne))
         | inr t ↦ bar-other s.user q (in-user s) k t.1 ∙ h.apart q k (λ z. ne (bar-other s.kernel q (in-kernel s) k t.1 ∙ z))
       ]
 
@@ -202,7 +222,8 @@ module _ (s : Shadow) (m m1 m2 : List ℕ) (page frame : ℕ) (h : IsShadow s m)
   bar-there =
       ap (λ x. by_words page x (at m2 s.user page)) bar-kernel
       ∙ ap (by_words page (barred_word frame (at m s.kernel page))) bar-user
-      ∙ barred-by page frame (at m s.kernel page) (at m s.user page) (h.marks s.kernel page (in-kernel s) l) (h.marks s.user page (in-user s) l)
+      ∙ barred-by page frame (at m s.kernel page) (at m s.user page) (h.marks s.kernel page (in-kernel s) l)
+      (h.marks s.user page (in-user s) l)
 
   pub bar-frames : held s m2 ≡ held s m
   bar-frames = b.frames ∙ a.frames
@@ -211,7 +232,8 @@ module _ (s : Shadow) (m m1 m2 : List ℕ) (page frame : ℕ) (h : IsShadow s m)
   bar-writes = Writes-trans (held s m) m m1 m2 a.writes (subst (λ (fs : List ℕ). Writes fs m1 m2) a.frames b.writes)
 
   pub bar-tables : KeepsTables s m m2
-  bar-tables = keeps-trans s m m1 m2 (puts-keep s m m1 s.kernel page (barred_word frame (at m s.kernel page)) a) (puts-keep s m1 m2 s.user page (barred_word frame (at m1 s.user page)) b)
+  bar-tables = keeps-trans s m m1 m2 (puts-keep s m m1 s.kernel page (barred_word frame (at m s.kernel page)) a)
+      (puts-keep s m1 m2 s.user page (barred_word frame (at m1 s.user page)) b)
 
   pub bars : Becomes s m m2 page (barred (frame ∷ []) (slot_at s m page))
   bars =
@@ -229,8 +251,10 @@ module _ (s : Shadow) (m m1 m2 : List ℕ) (page frame : ℕ) (h : IsShadow s m)
 -- ---- many pages
 
 -- no page of a directory index without tables is kept
-pub dir-none : (s : Shadow) (m : List ℕ) (index page : ℕ) → dir m s.kernel index ≡ 0 → dir m s.user index ≡ 0 → page / 1024 ≡ index → slot_at s m page ≡ None
-dir-none s m index page a b e = slot-none s m page (at-none m s.kernel page (ap (dir m s.kernel) e ∙ a)) (at-none m s.user page (ap (dir m s.user) e ∙ b))
+pub dir-none : (s : Shadow) (m : List ℕ) (index page : ℕ) → dir m s.kernel index ≡ 0 → dir m s.user index ≡ 0 → page / 1024 ≡ index
+    → slot_at s m page ≡ None
+dir-none s m index page a b e =
+    slot-none s m page (at-none m s.kernel page (ap (dir m s.kernel) e ∙ a)) (at-none m s.user page (ap (dir m s.user) e ∙ b))
 
 abbrev pub without : Shadow → List ℕ → ℕ → ℕ → Option Slot
 without s m frame page = barred (frame ∷ []) (slot_at s m page)
@@ -256,7 +280,8 @@ still-pairs m table frame first i next ne even n rest h j low high =
     ]
 
 -- no page is kept of directory indices without tables
-pub dirs-none : (s : Shadow) (m : List ℕ) (first last : ℕ) → ((d : ℕ) → first ≤ d → d < last → dir m s.kernel d ≡ 0) → ((d : ℕ) → first ≤ d → d < last → dir m s.user d ≡ 0)
+pub dirs-none : (s : Shadow) (m : List ℕ) (first last : ℕ) → ((d : ℕ) → first ≤ d → d < last → dir m s.kernel d ≡ 0)
+    → ((d : ℕ) → first ≤ d → d < last → dir m s.user d ≡ 0)
     → (page : ℕ) → page < 2 ^ 20 → 1024 * first ≤ page → page < 1024 * last → slot_at s m page ≡ None
 dirs-none s m first last a b page l low high =
     let from : first ≤ page / 1024 = omega (arith, low) in
@@ -276,7 +301,8 @@ word-still m r index frame first last few h page low high =
     let place : page / 1024 ≡ index = omega (arith, few, low, high) in
     let from : first ≤ page % 1024 = omega (arith, few, low, high) in
     let below : page % 1024 < last = omega (arith, few, low, high) in
-    subst (λ d. barred_word frame (by_dir m (dir m r d) (page % 1024)) ≡ by_dir m (dir m r d) (page % 1024)) (sym place) (h (page % 1024) from below)
+    subst (λ d. barred_word frame (by_dir m (dir m r d) (page % 1024)) ≡ by_dir m (dir m r d) (page % 1024)) (sym place)
+    (h (page % 1024) from below)
 
 -- and is 0 where those are
 pub word-none : (m : List ℕ) (r index first last : ℕ) → last ≤ 1024 → ((i : ℕ) → first ≤ i → i < last → by_dir m (dir m r index) i ≡ 0)
@@ -296,21 +322,28 @@ unfolding slot_at
 page-still s m page frame h l a b =
     ap (λ x. by_words page x (at m s.user page)) (sym a)
     ∙ ap (by_words page (barred_word frame (at m s.kernel page))) (sym b)
-    ∙ barred-by page frame (at m s.kernel page) (at m s.user page) (h.marks s.kernel page (in-kernel s) l) (h.marks s.user page (in-user s) l)
+    ∙ barred-by page frame (at m s.kernel page) (at m s.user page) (h.marks s.kernel page (in-kernel s) l)
+    (h.marks s.user page (in-user s) l)
 
 -- pages that have no right to lose
-pub bars-over : (s : Shadow) (m n : List ℕ) (first from last frame : ℕ) → first ≤ from → from ≤ last → Sweeps s m n first from (without s m frame)
-    → ((page : ℕ) → page < 2 ^ 20 → from ≤ page → page < last → slot_at s n page ≡ without s n frame page) → Sweeps s m n first last (without s m frame)
+pub bars-over : (s : Shadow) (m n : List ℕ) (first from last frame : ℕ) → first ≤ from → from ≤ last
+    → Sweeps s m n first from (without s m frame)
+    → ((page : ℕ) → page < 2 ^ 20 → from ≤ page → page < last → slot_at s n page ≡ without s n frame page)
+    → Sweeps s m n first last (without s m frame)
 bars-over s m n first from last frame x y a h =
     sweeps-over s m n first from last (without s m frame) a y x
     (λ page l low high. (
     let e = a.others page l (λ p q. absurd (omega (arith, q, low))) in sym e ∙ h page l low high ∙ ap (barred (frame ∷ [])) e))
 
-pub bars-more : (s : Shadow) (m m1 m2 : List ℕ) (first n frame : ℕ) → first ≤ n → n < 2 ^ 20 → Sweeps s m m1 first n (without s m frame) → Becomes s m1 m2 n (without s m1 frame n) → held s m2 ≡ held s m1 → Writes (held s m1) m1 m2 → KeepsTables s m1 m2 → Sweeps s m m2 first (n + 1) (without s m frame)
+pub bars-more : (s : Shadow) (m m1 m2 : List ℕ) (first n frame : ℕ) → first ≤ n → n < 2 ^ 20 → Sweeps s m m1 first n (without s m frame)
+    → Becomes s m1 m2 n (without s m1 frame n) → held s m2 ≡ held s m1 → Writes (held s m1) m1 m2 → KeepsTables s m1 m2
+    → Sweeps s m m2 first (n + 1) (without s m frame)
 bars-more s m m1 m2 first n frame le small a b f w k =
-    sweeps-more s m m1 m2 first n (without s m frame) (without s m1 frame n) le a b (ap (barred (frame ∷ [])) (a.others n small (λ x y. absurd (omega (arith, y))))) f w k
+    sweeps-more s m m1 m2 first n (without s m frame) (without s m1 frame n) le a b
+    (ap (barred (frame ∷ [])) (a.others n small (λ x y. absurd (omega (arith, y))))) f w k
 
-pub bars-trans : (s : Shadow) (m m1 m2 : List ℕ) (first n last frame : ℕ) → first ≤ n → n ≤ last → Sweeps s m m1 first n (without s m frame) → Sweeps s m1 m2 n last (without s m1 frame) → Sweeps s m m2 first last (without s m frame)
+pub bars-trans : (s : Shadow) (m m1 m2 : List ℕ) (first n last frame : ℕ) → first ≤ n → n ≤ last → Sweeps s m m1 first n (without s m frame)
+    → Sweeps s m1 m2 n last (without s m1 frame) → Sweeps s m m2 first last (without s m frame)
 bars-trans s m m1 m2 first n last frame x y a b =
     sweeps-trans s m m1 m2 first n last (without s m frame) (without s m1 frame) x y a b
     (λ page l low high. ap (barred (frame ∷ [])) (a.others page l (λ p q. absurd (omega (arith, q, low)))))

@@ -43,7 +43,8 @@ lets-none : (write : Bool) → lets 0 write ≡ false
 lets-none true = refl
 lets-none false = refl
 
-adequate-by : (page k u : ℕ) (side : Side) (write : Bool) → (k ≡ 0) ⊎ (u ≡ 0) → lets (word_in side k u) write ≡ is_adequate (by_words page k u) side write
+adequate-by : (page k u : ℕ) (side : Side) (write : Bool) → (k ≡ 0) ⊎ (u ≡ 0)
+    → lets (word_in side k u) write ≡ is_adequate (by_words page k u) side write
 adequate-by page zero zero Kernel write h = lets-none write
 adequate-by page zero zero User write h = lets-none write
 adequate-by page zero (suc u) Kernel write h = lets-none write
@@ -62,10 +63,12 @@ none-slot : (s : Shadow) (m : List ℕ) (q : ℕ) → slot_at s m q ≡ None →
 unfolding slot_at
 none-slot s m q e = none-by q (at m s.kernel q) (at m s.user q) e
 
-pub adequate-is : (s : Shadow) (m : List ℕ) (side : Side) (q : ℕ) (write : Bool) → IsShadow s m → q < 2 ^ 20 → lets (at m (root_of s side) q) write ≡ is_adequate (slot_at s m q) side write
+pub adequate-is : (s : Shadow) (m : List ℕ) (side : Side) (q : ℕ) (write : Bool) → IsShadow s m → q < 2 ^ 20
+    → lets (at m (root_of s side) q) write ≡ is_adequate (slot_at s m q) side write
 unfolding slot_at
 adequate-is s m side q write h l =
-    ap (λ x. lets x write) (at-side s m side q) ∙ adequate-by q (at m s.kernel q) (at m s.user q) side write (one-none (at m s.kernel q) (at m s.user q) (h.apart q l))
+    ap (λ x. lets x write) (at-side s m side q) ∙ adequate-by q (at m s.kernel q) (at m s.user q) side write
+    (one-none (at m s.kernel q) (at m s.user q) (h.apart q l))
 
 pub roots-apart : (s : Shadow) (m : List ℕ) → Holds m (held s m) → s.user ≢ s.kernel
 roots-apart s m h = λ e. absurd (
@@ -80,7 +83,8 @@ both s P x y r i = elim i [ inl e ↦ subst P (sym e) x | inr j ↦ elim j [ inl
 
 -- ---- a page that is dropped
 
-module _ (s : Shadow) (m m1 m2 : List ℕ) (page : ℕ) (h : IsShadow s m) (l : page < 2 ^ 20) (a : Puts m m1 (roots s) s.kernel page 0) (b : Puts m1 m2 (roots s) s.user page 0) where
+module _ (s : Shadow) (m m1 m2 : List ℕ) (page : ℕ) (h : IsShadow s m) (l : page < 2 ^ 20) (a : Puts m m1 (roots s) s.kernel page 0)
+    (b : Puts m1 m2 (roots s) s.user page 0) where
   drop-kernel : at m2 s.kernel page ≡ 0
   drop-kernel = b.others s.kernel page (in-kernel s) l (λ e q. roots-apart s m h.holds (sym e)) ∙ a.there
 
@@ -112,7 +116,8 @@ module _ (s : Shadow) (m m1 m2 : List ℕ) (page : ℕ) (h : IsShadow s m) (l : 
   drops =
       record {
         shadow = record {
-          holds = Holds-along m2 (held s m) (held s m2) (b.frames ∙ a.frames) (Holds-writes (held s m) m m2 h.holds (b.writes.size ∙ a.writes.size));
+          holds = Holds-along m2 (held s m) (held s m2) (b.frames ∙ a.frames)
+              (Holds-writes (held s m) m m2 h.holds (b.writes.size ∙ a.writes.size));
           apart = drop-apart;
           shape = drop-shape;
           marks = drop-marks;
@@ -134,7 +139,8 @@ drop-half s m m1 page h a = Holds-along m1 (held s m) (held s m1) a.frames (Hold
 
 fill-at : (s : Shadow) (m1 m2 m3 : List ℕ) (b : Bool) (side : Side) (entry : Entry) (wp : Bool) → slot_at s m1 entry.page ≡ None
     → ((t q : ℕ) → IsIn t (roots s) → q < 2 ^ 20 → at m2 t q ≡ at m1 t q) → Holds m2 (held s m2)
-    → Puts m2 m3 (roots s) (root_of s side) entry.page (word_of (filled b side entry wp)) → entry.page < 2 ^ 20 → slot_at s m3 entry.page ≡ Some (filled b side entry wp)
+    → Puts m2 m3 (roots s) (root_of s side) entry.page (word_of (filled b side entry wp)) → entry.page < 2 ^ 20
+    → slot_at s m3 entry.page ≡ Some (filled b side entry wp)
 unfolding slot_at
 fill-at s m1 m2 m3 b Kernel entry wp n w h a l =
     let x : Slot = filled b Kernel entry wp in
@@ -154,7 +160,8 @@ fill-at s m1 m2 m3 b User entry wp n w h a l =
 
 fill-one : (s : Shadow) (m1 m2 m3 : List ℕ) (b : Bool) (side : Side) (entry : Entry) (wp : Bool) → slot_at s m1 entry.page ≡ None
     → ((t q : ℕ) → IsIn t (roots s) → q < 2 ^ 20 → at m2 t q ≡ at m1 t q) → Holds m2 (held s m2)
-    → Puts m2 m3 (roots s) (root_of s side) entry.page (word_of (filled b side entry wp)) → entry.page < 2 ^ 20 → (at m3 s.kernel entry.page ≡ 0) ⊎ (at m3 s.user entry.page ≡ 0)
+    → Puts m2 m3 (roots s) (root_of s side) entry.page (word_of (filled b side entry wp)) → entry.page < 2 ^ 20
+    → (at m3 s.kernel entry.page ≡ 0) ⊎ (at m3 s.user entry.page ≡ 0)
 fill-one s m1 m2 m3 b Kernel entry wp n w h a l =
     inr (a.others s.user entry.page (in-user s) l (λ e q. roots-apart s m2 h e)
     ∙ w s.user entry.page (in-user s) l
@@ -165,8 +172,10 @@ fill-one s m1 m2 m3 b User entry wp n w h a l =
     ∙ (none-slot s m1 entry.page n).0)
 
 module _ (s : Shadow) (m m1 m2 m3 : List ℕ) (b : Bool) (side : Side) (entry : Entry) (wp : Bool) (d : Becomes s m m1 entry.page None)
-    (w : (t q : ℕ) → IsIn t (roots s) → q < 2 ^ 20 → at m2 t q ≡ at m1 t q) (sh : (t e : ℕ) → IsIn t (roots s) → e < 1024 → (dir m2 t e ≡ dir m1 t e) ⊎ (dir m2 t e % 4096 ≡ 7)) (h : Holds m2 (held s m2))
-    (a : Puts m2 m3 (roots s) (root_of s side) entry.page (word_of (filled b side entry wp))) (l : entry.page < 2 ^ 20) (small : entry.frame < 2 ^ 20) where
+    (w : (t q : ℕ) → IsIn t (roots s) → q < 2 ^ 20 → at m2 t q ≡ at m1 t q)
+    (sh : (t e : ℕ) → IsIn t (roots s) → e < 1024 → (dir m2 t e ≡ dir m1 t e) ⊎ (dir m2 t e % 4096 ≡ 7)) (h : Holds m2 (held s m2))
+    (a : Puts m2 m3 (roots s) (root_of s side) entry.page (word_of (filled b side entry wp))) (l : entry.page < 2 ^ 20)
+    (small : entry.frame < 2 ^ 20) where
   fill-other : (t q : ℕ) → IsIn t (roots s) → q < 2 ^ 20 → (q ≡ entry.page → ⊥) → at m3 t q ≡ at m1 t q
   fill-other t q i k n = a.others t q i k (λ e x. n x) ∙ w t q i k
 
@@ -215,7 +224,8 @@ module _ (s : Shadow) (m m1 m2 m3 : List ℕ) (b : Bool) (side : Side) (entry : 
           marks = fill-marks;
         };
         there = fill-there;
-        others = λ q k n. slot-same s m1 m3 q (fill-other s.kernel q (in-kernel s) k n) (fill-other s.user q (in-user s) k n) ∙ d.others q k n;
+        others =
+            λ q k n. slot-same s m1 m3 q (fill-other s.kernel q (in-kernel s) k n) (fill-other s.user q (in-user s) k n) ∙ d.others q k n;
       }
 
 -- ---- the frames
@@ -233,13 +243,15 @@ module _ (s : Shadow) (p : Pool) (m m1 : List ℕ) (o : Owns p m (held s m)) (e 
   pub has_tables_under-owns : (p' : Pool) (m2 : List ℕ) (r d : ℕ) → Opens p p' m1 m2 (roots s) r d → Owns p' m2 (held s m2)
   has_tables_under-owns p' m2 r d v = Owns-moves p p' m1 m2 (held s m1) (held s m2) dropped-owns v.moves
 
-  pub fill-takes : (p' : Pool) (m2 m3 : List ℕ) (r d page v : ℕ) → Opens p p' m1 m2 (roots s) r d → Puts m2 m3 (roots s) r page v → length (free_list p m) ≤ length (free_list p' m3) + 1
+  pub fill-takes : (p' : Pool) (m2 m3 : List ℕ) (r d page v : ℕ) → Opens p p' m1 m2 (roots s) r d → Puts m2 m3 (roots s) r page v
+      → length (free_list p m) ≤ length (free_list p' m3) + 1
   fill-takes p' m2 m3 r d page v x a =
       let b = ap length (free_list-writes p m m1 (held s m) o w) in
       let c = ap length (free_list-writes p' m2 m3 (held s m2) (has_tables_under-owns p' m2 r d x) a.writes) in
       let one = x.one in omega (arith, b, c, one)
 
-  pub fill-moves : (p' : Pool) (m2 m3 : List ℕ) (r d page v : ℕ) → Opens p p' m1 m2 (roots s) r d → Puts m2 m3 (roots s) r page v → Moves p p' m m3 (held s m) (held s m3)
+  pub fill-moves : (p' : Pool) (m2 m3 : List ℕ) (r d page v : ℕ) → Opens p p' m1 m2 (roots s) r d → Puts m2 m3 (roots s) r page v
+      → Moves p p' m m3 (held s m) (held s m3)
   fill-moves p' m2 m3 r d page v x a =
       Moves-trans p p p' m m1 m3 (held s m) (held s m1) (held s m3) dropped-moves
       (Moves-trans p p' p' m1 m2 m3 (held s m1) (held s m2) (held s m3) x.moves
@@ -248,13 +260,15 @@ module _ (s : Shadow) (p : Pool) (m m1 : List ℕ) (o : Owns p m (held s m)) (e 
 
 -- ---- views that keep nothing
 
-pub empty-held : (s : Shadow) (m : List ℕ) → ((d : ℕ) → d < 1024 → dir m s.kernel d ≡ 0) → ((d : ℕ) → d < 1024 → dir m s.user d ≡ 0) → held s m ≡ roots s
+pub empty-held : (s : Shadow) (m : List ℕ) → ((d : ℕ) → d < 1024 → dir m s.kernel d ≡ 0) → ((d : ℕ) → d < 1024 → dir m s.user d ≡ 0)
+    → held s m ≡ roots s
 unfolding owned
 empty-held s m a b =
     ap (λ (fs : List ℕ). s.kernel ∷ (fs ++ (s.user ∷ (tables m s.user 1024 ++ [])))) (tables-none m s.kernel 1024 a)
     ∙ ap (λ (fs : List ℕ). s.kernel ∷ s.user ∷ (fs ++ [])) (tables-none m s.user 1024 b)
 
-pub empty : (s : Shadow) (m : List ℕ) → Holds m (roots s) → ((d : ℕ) → d < 1024 → dir m s.kernel d ≡ 0) → ((d : ℕ) → d < 1024 → dir m s.user d ≡ 0) → IsEmpty s m
+pub empty : (s : Shadow) (m : List ℕ) → Holds m (roots s) → ((d : ℕ) → d < 1024 → dir m s.kernel d ≡ 0)
+    → ((d : ℕ) → d < 1024 → dir m s.user d ≡ 0) → IsEmpty s m
 empty s m h a b =
     let e = empty-held s m a b in
     record {
@@ -262,13 +276,18 @@ empty s m h a b =
         holds = subst (Holds m) (sym e) h;
         apart = λ page l ne. at-none m s.user page (b (page / 1024) (high page l));
         shape = λ r d i l ne. absurd (ne (both s (λ x. dir m x d ≡ 0) (a d l) (b d l) r i));
-        marks = λ r page i l ne. absurd (ne (both s (λ x. at m x page ≡ 0) (at-none m s.kernel page (a (page / 1024) (high page l))) (at-none m s.user page (b (page / 1024) (high page l))) r i));
+        marks =
+            λ r page i l ne. absurd (ne
+            (both s (λ x. at m x page ≡ 0) (at-none m s.kernel page (a (page / 1024) (high page l)))
+            (at-none m s.user page (b (page / 1024) (high page l))) r i));
       };
-      none = λ page l. slot-none s m page (at-none m s.kernel page (a (page / 1024) (high page l))) (at-none m s.user page (b (page / 1024) (high page l)));
+      none = λ page l. slot-none s m page (at-none m s.kernel page (a (page / 1024) (high page l)))
+          (at-none m s.user page (b (page / 1024) (high page l)));
       frames = e;
     }
 
-module _ (s : Shadow) (p p1 p2 : Pool) (m m1 m2 : List ℕ) (o : Owns p m (held s m)) (a : Empties p p1 m m1 (roots s) s.kernel 1024) (b : Empties p1 p2 m1 m2 (roots s) s.user 1024) where
+module _ (s : Shadow) (p p1 p2 : Pool) (m m1 m2 : List ℕ) (o : Owns p m (held s m)) (a : Empties p p1 m m1 (roots s) s.kernel 1024)
+    (b : Empties p1 p2 m1 m2 (roots s) s.user 1024) where
   pub emptied-moves : Moves p p2 m m2 (held s m) (held s m2)
   emptied-moves = Moves-trans p p1 p2 m m1 m2 (held s m) (held s m1) (held s m2) a.moves b.moves
 
@@ -277,15 +296,18 @@ module _ (s : Shadow) (p p1 p2 : Pool) (m m1 m2 : List ℕ) (o : Owns p m (held 
 
   pub emptied : IsEmpty s m2
   emptied =
-      let k : (d : ℕ) → d < 1024 → dir m2 s.kernel d ≡ 0 = λ d l. b.dirs s.kernel d (in-kernel s) l (λ e. roots-apart s m2 emptied-holds (sym e)) ∙ a.gone d l in
+      let k : (d : ℕ) → d < 1024 → dir m2 s.kernel d ≡ 0 =
+      λ d l. b.dirs s.kernel d (in-kernel s) l (λ e. roots-apart s m2 emptied-holds (sym e)) ∙ a.gone d l in
       empty s m2 (subst (Holds m2) (empty-held s m2 k b.gone) emptied-holds) k b.gone
 
-pub half-owned : (s : Shadow) (p p1 : Pool) (m m1 : List ℕ) → Owns p m (held s m) → Empties p p1 m m1 (roots s) s.kernel 1024 → IsOwned p1 m1 s.user
+pub half-owned : (s : Shadow) (p p1 : Pool) (m m1 : List ℕ) → Owns p m (held s m) → Empties p p1 m m1 (roots s) s.kernel 1024
+    → IsOwned p1 m1 s.user
 half-owned s p p1 m m1 o a = record { all = roots s; owns = Owns-moves p p1 m m1 (held s m) (held s m1) o a.moves; root = in-user s }
 
 -- ---- the first two frames
 
-module _ (s : Shadow) (p p1 p2 : Pool) (m m1 m2 : List ℕ) (o : Stands p m) (a : Takes p p1 m m1 s.kernel) (b : Takes p1 p2 m1 m2 s.user) where
+module _ (s : Shadow) (p p1 p2 : Pool) (m m1 m2 : List ℕ) (o : Stands p m) (a : Takes p p1 m m1 s.kernel)
+    (b : Takes p1 p2 m1 m2 s.user) where
   first : Moves p p1 m m1 [] (s.kernel ∷ [])
   first = Moves-take p p1 m m1 [] s.kernel a
 

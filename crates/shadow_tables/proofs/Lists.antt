@@ -20,8 +20,10 @@ pub after-append : (cs ds : List Call) (page : ℕ) (o : Option Slot) → after 
 after-append [] ds page o = refl
 after-append (c ∷ cs) ds page o = after-append cs ds page (after_call c page o)
 
-pub after-take : (cs : List Call) (i : ℕ) (d : Call) (page : ℕ) (o : Option Slot) → i < length cs → after (take (i + 1) cs) page o ≡ after_call (get_or cs i d) page (after (take i cs) page o)
-after-take cs i d page o h = ap (λ (xs : List Call). after xs page o) (take_more cs i d h) ∙ after-append (take i cs) (get_or cs i d ∷ []) page o
+pub after-take : (cs : List Call) (i : ℕ) (d : Call) (page : ℕ) (o : Option Slot) → i < length cs
+    → after (take (i + 1) cs) page o ≡ after_call (get_or cs i d) page (after (take i cs) page o)
+after-take cs i d page o h =
+    ap (λ (xs : List Call). after xs page o) (take_more cs i d h) ∙ after-append (take i cs) (get_or cs i d ∷ []) page o
 
 pub fit-at : (cs : List Call) (i : ℕ) (d : Call) → AreFit cs → i < length cs → IsFit (get_or cs i d)
 fit-at [] i d h l = absurd (omega (arith, l))
@@ -32,7 +34,8 @@ fills-append : (cs ds : List Call) → fills (cs ++ ds) ≡ fills cs + fills ds
 fills-append [] ds = omega arith
 fills-append (c ∷ cs) ds = let e = fills-append cs ds in omega (arith, e)
 
-pub fills-take : (cs : List Call) (i : ℕ) (d : Call) → i < length cs → fills (take (i + 1) cs) ≡ fills (take i cs) + fill_count (get_or cs i d)
+pub fills-take : (cs : List Call) (i : ℕ) (d : Call) → i < length cs → fills (take (i + 1) cs) ≡ fills (take i cs)
+    + fill_count (get_or cs i d)
 fills-take cs i d h =
     let e = ap fills (take_more cs i d h) in let a = fills-append (take i cs) (get_or cs i d ∷ []) in omega (arith, e, a)
 
@@ -60,11 +63,13 @@ alone-after (c ∷ cs) page o h = ap (after cs page) (alone-call c page o h.0) �
 
 -- ---- the last fill
 
-fill-call : (side : Side) (entry : Entry) (wp : Bool) (page : ℕ) (o : Option Slot) → page ≡ entry.page → after_call (Fill side entry wp) page o ≡ Some (filled false side entry wp)
+fill-call : (side : Side) (entry : Entry) (wp : Bool) (page : ℕ) (o : Option Slot) → page ≡ entry.page
+    → after_call (Fill side entry wp) page o ≡ Some (filled false side entry wp)
 fill-call side entry wp page o e =
     elim (eqb_tells page entry.page) [ inl t ↦ ap (λ b. cond b (Some (filled false side entry wp)) o) t.0 | inr f ↦ absurd (f.1 e) ]
 
-last-after : (cs : List Call) (page : ℕ) (side : Side) (entry : Entry) (wp : Bool) (o : Option Slot) → LastFill cs page side entry wp → after cs page o ≡ Some (filled false side entry wp)
+last-after : (cs : List Call) (page : ℕ) (side : Side) (entry : Entry) (wp : Bool) (o : Option Slot) → LastFill cs page side entry wp
+    → after cs page o ≡ Some (filled false side entry wp)
 last-after cs page side entry wp o l =
     ap (λ (xs : List Call). after xs page o) l.place
     ∙ after-append l.before (Fill side entry wp ∷ l.later) page o
@@ -83,7 +88,12 @@ Ends cs page o = LeaveAlone page cs ⊎ (Last cs page ⊎ (after cs page o ≡ N
 ends-first : (c : Call) (cs : List Call) (page : ℕ) (o : Option Slot) → LeaveAlone page cs → Ends (c ∷ cs) page o
 ends-first (Fill side entry wp) cs page o a =
     elim (eqb_tells page entry.page) [
-      | inl t ↦ inr (inl (record { side = side; entry = entry; wp = wp; last = record { before = []; later = cs; place = refl; here = t.1; alone = a } }))
+      | inl t ↦ inr (inl (record {
+        side = side;
+        entry = entry;
+        wp = wp;
+        last = record { before = []; later = cs; place = refl; here = t.1; alone = a };
+      }))
       | inr f ↦ inl (f.1, a)
     ]
 ends-first (DropPage dropped) cs page o a =
@@ -106,7 +116,13 @@ last-more c cs page f =
       side = f.side;
       entry = f.entry;
       wp = f.wp;
-      last = record { before = c ∷ f.last.before; later = f.last.later; place = ap (λ (xs : List Call). c ∷ xs) f.last.place; here = f.last.here; alone = f.last.alone };
+      last = record {
+        before = c ∷ f.last.before;
+        later = f.last.later;
+        place = ap (λ (xs : List Call). c ∷ xs) f.last.place;
+        here = f.last.here;
+        alone = f.last.alone;
+      };
     }
 
 ends : (cs : List Call) (page : ℕ) (o : Option Slot) → Ends cs page o
@@ -119,7 +135,8 @@ ends (c ∷ cs) page o =
 
 -- ---- the law
 
-kept-from : (cs : List Call) (page : ℕ) (o now : Option Slot) (entry : Entry) → now ≡ after cs page o → entry_in now ≡ Some entry → IsEntryAfter cs page o entry
+kept-from : (cs : List Call) (page : ℕ) (o now : Option Slot) (entry : Entry) → now ≡ after cs page o → entry_in now ≡ Some entry
+    → IsEntryAfter cs page o entry
 kept-from cs page o now entry q e =
     elim (ends cs page o) [
       | inl a ↦ inr (a, ap entry_in (sym (q ∙ alone-after cs page o a)) ∙ e)
@@ -131,7 +148,8 @@ kept-from cs page o now entry q e =
       ]
     ]
 
-kept-to : (cs : List Call) (page : ℕ) (o now : Option Slot) (entry : Entry) → now ≡ after cs page o → IsEntryAfter cs page o entry → entry_in now ≡ Some entry
+kept-to : (cs : List Call) (page : ℕ) (o now : Option Slot) (entry : Entry) → now ≡ after cs page o → IsEntryAfter cs page o entry
+    → entry_in now ≡ Some entry
 kept-to cs page o now entry q h =
     elim h [
       | inl f ↦ ap entry_in (q ∙ last-after cs page f.0 entry f.1 o f.2)
@@ -142,7 +160,8 @@ record Passes (s side : Side) (entry : Entry) (wp write : Bool) : Type 0 where
   same : s ≡ side
   passes : permits side entry write wp ≡ true
 
-passes-from : (s side : Side) (entry : Entry) (wp write : Bool) → is_adequate (Some (filled false s entry wp)) side write ≡ true → Passes s side entry wp write
+passes-from : (s side : Side) (entry : Entry) (wp write : Bool) → is_adequate (Some (filled false s entry wp)) side write ≡ true
+    → Passes s side entry wp write
 passes-from Kernel Kernel entry wp true h = record { same = refl; passes = h }
 passes-from Kernel Kernel entry wp false h = record { same = refl; passes = h }
 passes-from Kernel User entry wp write h = cc
@@ -150,32 +169,37 @@ passes-from User Kernel entry wp write h = cc
 passes-from User User entry wp true h = record { same = refl; passes = h }
 passes-from User User entry wp false h = record { same = refl; passes = h }
 
-passes-to : (side : Side) (entry : Entry) (wp write : Bool) → permits side entry write wp ≡ true → is_adequate (Some (filled false side entry wp)) side write ≡ true
+passes-to : (side : Side) (entry : Entry) (wp write : Bool) → permits side entry write wp ≡ true
+    → is_adequate (Some (filled false side entry wp)) side write ≡ true
 passes-to Kernel entry wp true h = h
 passes-to Kernel entry wp false h = h
 passes-to User entry wp true h = h
 passes-to User entry wp false h = h
 
-adequate-from : (cs : List Call) (page : ℕ) (o now : Option Slot) (side : Side) (write : Bool) → now ≡ after cs page o → is_adequate now side write ≡ true → IsAdequateAfter cs page o side write
+adequate-from : (cs : List Call) (page : ℕ) (o now : Option Slot) (side : Side) (write : Bool) → now ≡ after cs page o
+    → is_adequate now side write ≡ true → IsAdequateAfter cs page o side write
 adequate-from cs page o now side write q e =
     elim (ends cs page o) [
       | inl a ↦ inr (a, ap (λ x. is_adequate x side write) (sym (q ∙ alone-after cs page o a)) ∙ e)
       | inr x ↦ elim x [
         | inl f ↦
-            let s = passes-from f.side side f.entry f.wp write (ap (λ x. is_adequate x side write) (sym (q ∙ last-after cs page f.side f.entry f.wp o f.last)) ∙ e) in
+            let s = passes-from f.side side f.entry f.wp write
+            (ap (λ x. is_adequate x side write) (sym (q ∙ last-after cs page f.side f.entry f.wp o f.last)) ∙ e) in
             inl (f.entry, f.wp, subst (λ y. LastFill cs page y f.entry f.wp) s.same f.last, s.passes)
         | inr n ↦ absurd (let s = ap (λ x. is_adequate x side write) (sym (q ∙ n)) ∙ e in cc)
       ]
     ]
 
-adequate-to : (cs : List Call) (page : ℕ) (o now : Option Slot) (side : Side) (write : Bool) → now ≡ after cs page o → IsAdequateAfter cs page o side write → is_adequate now side write ≡ true
+adequate-to : (cs : List Call) (page : ℕ) (o now : Option Slot) (side : Side) (write : Bool) → now ≡ after cs page o
+    → IsAdequateAfter cs page o side write → is_adequate now side write ≡ true
 adequate-to cs page o now side write q h =
     elim h [
       | inl f ↦ ap (λ x. is_adequate x side write) (q ∙ last-after cs page side f.0 f.1 o f.2) ∙ passes-to side f.0 f.1 write f.3
       | inr a ↦ ap (λ x. is_adequate x side write) (q ∙ alone-after cs page o a.0) ∙ a.1
     ]
 
-pub adequate-after : (cs : List Call) (page : ℕ) (o now : Option Slot) (side : Side) (write : Bool) → now ≡ after cs page o → (is_adequate now side write ≡ true) ↔ IsAdequateAfter cs page o side write
+pub adequate-after : (cs : List Call) (page : ℕ) (o now : Option Slot) (side : Side) (write : Bool) → now ≡ after cs page o
+    → (is_adequate now side write ≡ true) ↔ IsAdequateAfter cs page o side write
 adequate-after cs page o now side write q = (adequate-from cs page o now side write q, adequate-to cs page o now side write q)
 
 -- ---- with frames that are barred from writes
@@ -224,7 +248,8 @@ both-true false a b h e = cc
 
 within-writes : (a b : Option Slot) (side : Side) → IsWithin a b → is_adequate a side true ≡ true → is_adequate b side true ≡ true
 within-writes None None side h e = e
-within-writes (Some a) (Some b) side h e = both-true (is_side b.side side) a.writes b.writes h.3 (ap (λ x. is_side x side && a.writes) (sym h.0) ∙ e)
+within-writes (Some a) (Some b) side h e =
+    both-true (is_side b.side side) a.writes b.writes h.3 (ap (λ x. is_side x side && a.writes) (sym h.0) ∙ e)
 within-writes None (Some b) side h e = absurd h
 within-writes (Some a) None side h e = absurd h
 
@@ -247,7 +272,9 @@ only-less false p e = e
 
 pub barred-within : (write_protected : List ℕ) (o : Option Slot) → IsWithin (barred write_protected o) o
 barred-within write_protected None = tt
-barred-within write_protected (Some slot) = (refl, refl, refl, (λ e. (and_parts slot.writes (not (is_among slot.entry.frame write_protected)) e).0))
+barred-within write_protected (Some slot) =
+    (refl, refl, refl, (λ e. (and_parts slot.writes (not (is_among slot.entry.frame write_protected)) e).0))
 
-pub note-within : (f f' : ℕ → Option Slot) (write_protected : List ℕ) (page : ℕ) → LosesWrites f f' write_protected → page < 2 ^ 20 → IsWithin (f' page) (f page)
+pub note-within : (f f' : ℕ → Option Slot) (write_protected : List ℕ) (page : ℕ) → LosesWrites f f' write_protected → page < 2 ^ 20
+    → IsWithin (f' page) (f page)
 note-within f f' write_protected page t l = subst (λ x. IsWithin x (f page)) (sym (t page l)) (barred-within write_protected (f page))

@@ -25,7 +25,8 @@ in_pages f page l = elim (leb_tells (2 ^ 20) page) [
 beyond : (f : ℕ → Option Slot) (page : ℕ) → leb (2 ^ 20) page ≡ true → of_pages f page ≡ None
 beyond f page e = ap (λ b. cond b None (f page)) e
 
-pub turned_pages : (f f' : ℕ → Option Slot) (page : ℕ) (o : Option Slot) → page < 2 ^ 20 → Turns f f' page o → of_pages f' ≡ turned page o (of_pages f)
+pub turned_pages : (f f' : ℕ → Option Slot) (page : ℕ) (o : Option Slot) → page < 2 ^ 20 → Turns f f' page o
+    → of_pages f' ≡ turned page o (of_pages f)
 turned_pages f f' page o l t = fun_ext (λ q. elim (eqb_tells q page) [
   | inl e ↦ ap (of_pages f') e.1 ∙ in_pages f' page l ∙ t.there ∙ sym (ap (λ b. cond b o (of_pages f q)) e.0)
   | inr n ↦
@@ -58,8 +59,10 @@ after_calls-append : (cs ds : List Call) (v : Seen) → after_calls (cs ++ ds) v
 after_calls-append [] ds v = refl
 after_calls-append (c ∷ cs) ds v = after_calls-append cs ds (after_one c v)
 
-pub after_calls-take : (cs : List Call) (i : ℕ) (d : Call) → i < length cs → (v : Seen) → after_calls (take (i + 1) cs) v ≡ after_one (get_or cs i d) (after_calls (take i cs) v)
-after_calls-take cs i d h v = ap (λ (xs : List Call). after_calls xs v) (take_more cs i d h) ∙ after_calls-append (take i cs) (get_or cs i d ∷ []) v
+pub after_calls-take : (cs : List Call) (i : ℕ) (d : Call) → i < length cs → (v : Seen)
+    → after_calls (take (i + 1) cs) v ≡ after_one (get_or cs i d) (after_calls (take i cs) v)
+after_calls-take cs i d h v =
+    ap (λ (xs : List Call). after_calls xs v) (take_more cs i d h) ∙ after_calls-append (take i cs) (get_or cs i d ∷ []) v
 
 -- ---- of one page
 
@@ -67,7 +70,8 @@ chosen : (P : Seen → Type 0) (b : Bool) (v w : Seen) → P v → P w → P (co
 chosen P true v w h k = h
 chosen P false v w h k = k
 
-filled-within : (here b : Bool) (side : Side) (entry : Entry) (wp : Bool) (o : Option Slot) → IsWithin (cond here (Some (filled b side entry wp)) o) (cond here (Some (filled false side entry wp)) o)
+filled-within : (here b : Bool) (side : Side) (entry : Entry) (wp : Bool) (o : Option Slot)
+    → IsWithin (cond here (Some (filled b side entry wp)) o) (cond here (Some (filled false side entry wp)) o)
 filled-within true b side entry wp o = (refl, refl, refl, only-less b (permits side entry true wp))
 filled-within false b side entry wp o = within-refl o
 
@@ -77,8 +81,10 @@ one-within (Fill side entry wp) v page = filled-within (eqb page entry.page) (pr
 one-within (DropPage dropped) v page = within-refl _
 one-within (DropDir index) v page = within-refl _
 one-within DropAll v page = chosen (λ w. IsWithin (w.slots page) None) (is_none v.cr3) _ _ tt tt
-one-within (Note frame) v page = chosen (λ w. IsWithin (w.slots page) (v.slots page)) (is_none v.cr3) _ _ (within-refl (v.slots page)) (barred-within (frame ∷ []) (v.slots page))
-one-within (Written frame) v page = chosen (λ w. IsWithin (w.slots page) (v.slots page)) (is_none v.cr3) _ _ (within-refl (v.slots page)) (within-refl (v.slots page))
+one-within (Note frame) v page = chosen (λ w. IsWithin (w.slots page) (v.slots page)) (is_none v.cr3) _ _ (within-refl (v.slots page))
+    (barred-within (frame ∷ []) (v.slots page))
+one-within (Written frame) v page =
+    chosen (λ w. IsWithin (w.slots page) (v.slots page)) (is_none v.cr3) _ _ (within-refl (v.slots page)) (within-refl (v.slots page))
 
 read-now : (none was here more : Bool) → none ≡ false → here ≡ true → ((not none && (was || here)) || more) ≡ false → ⊥
 read-now true was here more e h k = absurd (let q : true ≡ false = e in cc)
@@ -90,22 +96,29 @@ eqb_same : (n : ℕ) → eqb n n ≡ true
 eqb_same n = elim (eqb_tells n n) [ inl t ↦ t.0 | inr f ↦ absurd (f.1 refl) ]
 
 -- just that, where no frame is write-protected before and after
-one-exact : (call : Call) (v : Seen) (page : ℕ) → ((f : ℕ) → protects v f ≡ false) → ((f : ℕ) → protects (after_one call v) f ≡ false) → (after_one call v).slots page ≡ after_call call page (v.slots page)
-one-exact (Fill side entry wp) v page before after = ap (λ b. cond (eqb page entry.page) (Some (filled b side entry wp)) (v.slots page)) (before entry.frame)
+one-exact : (call : Call) (v : Seen) (page : ℕ) → ((f : ℕ) → protects v f ≡ false) → ((f : ℕ) → protects (after_one call v) f ≡ false)
+    → (after_one call v).slots page ≡ after_call call page (v.slots page)
+one-exact (Fill side entry wp) v page before after =
+    ap (λ b. cond (eqb page entry.page) (Some (filled b side entry wp)) (v.slots page)) (before entry.frame)
 one-exact (DropPage dropped) v page before after = refl
 one-exact (DropDir index) v page before after = refl
 one-exact DropAll v page before after = chosen (λ w. w.slots page ≡ None) (is_none v.cr3) _ _ refl refl
 one-exact (Note frame) v page before after = by (is_none v.cr3) refl (after frame)
   where
     marked : Seen
-    marked = record v { slots = λ page. barred (frame ∷ []) (v.slots page); read_from = λ f. v.read_from f || (f == frame); other_roots = map (λ (a : OtherRoot). record a { slots = λ page. barred (frame ∷ []) (a.slots page) }) v.other_roots }
+    marked = record v {
+      slots = λ page. barred (frame ∷ []) (v.slots page);
+      read_from = λ f. v.read_from f || (f == frame);
+      other_roots = map (λ (a : OtherRoot). record a { slots = λ page. barred (frame ∷ []) (a.slots page) }) v.other_roots;
+    }
 
     by : (b : Bool) → is_none v.cr3 ≡ b → protects (cond b v marked) frame ≡ false → (cond b v marked).slots page ≡ v.slots page
     by true e h = refl
     by false e h = absurd (read-now (is_none v.cr3) (v.read_from frame) (eqb frame frame) _ e (eqb_same frame) h)
 one-exact (Written frame) v page before after = chosen (λ w. w.slots page ≡ v.slots page) (is_none v.cr3) _ _ refl refl
 
-module _ {S : Type 0} (g : shadows.Ghosts S) (seen : (s : S) (m : List ℕ) → g.sight s m ≡ seen_of (g.slots s m) (g.read_from s) (g.stale s) (g.cr3 s) (g.other_roots s m)) where
+module _ {S : Type 0} (g : shadows.Ghosts S) (seen : (s : S) (m : List ℕ) → g.sight s m ≡ seen_of (g.slots s m) (g.read_from s) (g.stale s)
+    (g.cr3 s) (g.other_roots s m)) where
   -- what is kept of a page is what is seen of it
   pub in-sight : (s : S) (m : List ℕ) (page : ℕ) → page < 2 ^ 20 → g.slots s m page ≡ (g.sight s m).slots page
   in-sight s m page l = sym (ap (λ (v : Seen). v.slots page) (seen s m) ∙ in_pages (g.slots s m) page l)
@@ -113,13 +126,16 @@ module _ {S : Type 0} (g : shadows.Ghosts S) (seen : (s : S) (m : List ℕ) → 
   pub same-slots : (s s' : S) (m m' : List ℕ) → g.sight s' m' ≡ g.sight s m → SameSlots (g.slots s m) (g.slots s' m')
   same-slots s s' m m' e page l = in-sight s' m' page l ∙ ap (λ (v : Seen). v.slots page) e ∙ sym (in-sight s m page l)
 
-  pub call-within : (call : Call) (s s' : S) (m m' : List ℕ) → g.sight s' m' ≡ after_one call (g.sight s m) → IsWithinCall call (g.slots s m) (g.slots s' m')
+  pub call-within : (call : Call) (s s' : S) (m m' : List ℕ) → g.sight s' m' ≡ after_one call (g.sight s m)
+      → IsWithinCall call (g.slots s m) (g.slots s' m')
   call-within call s s' m m' e page l =
       subst (λ x. IsWithin x (after_call call page (g.slots s m page))) (sym (in-sight s' m' page l ∙ ap (λ (v : Seen). v.slots page) e))
-      (subst (λ x. IsWithin ((after_one call (g.sight s m)).slots page) (after_call call page x)) (sym (in-sight s m page l)) (one-within call (g.sight s m) page))
+      (subst (λ x. IsWithin ((after_one call (g.sight s m)).slots page) (after_call call page x)) (sym (in-sight s m page l))
+      (one-within call (g.sight s m) page))
 
   pub call-exact : (protected : (s : S) (m : List ℕ) (frame : ℕ) → is_among frame (g.write_protected s) ≡ protects (g.sight s m) frame)
-      → (call : Call) (s s' : S) (m m' : List ℕ) → g.sight s' m' ≡ after_one call (g.sight s m) → ProtectsNone g.write_protected → IsAfterCall call (g.slots s m) (g.slots s' m')
+      → (call : Call) (s s' : S) (m m' : List ℕ) → g.sight s' m' ≡ after_one call (g.sight s m) → ProtectsNone g.write_protected
+      → IsAfterCall call (g.slots s m) (g.slots s' m')
   call-exact protected call s s' m m' e free page l =
       let none = λ (x : S) (k : List ℕ) (f : ℕ). sym (protected x k f) ∙ ap (is_among f) (free x) in
       in-sight s' m' page l ∙ ap (λ (v : Seen). v.slots page) e

@@ -22,7 +22,9 @@ sweeps-none s m first f h =
     }
 
 -- one page more
-pub sweeps-more : (s : Shadow) (m m1 m2 : List ℕ) (first n : ℕ) (f : ℕ → Option Slot) (o : Option Slot) → first ≤ n → Sweeps s m m1 first n f → Becomes s m1 m2 n o → o ≡ f n → held s m2 ≡ held s m1 → Writes (held s m1) m1 m2 → KeepsTables s m1 m2 → Sweeps s m m2 first (n + 1) f
+pub sweeps-more : (s : Shadow) (m m1 m2 : List ℕ) (first n : ℕ) (f : ℕ → Option Slot) (o : Option Slot) → first ≤ n
+    → Sweeps s m m1 first n f → Becomes s m1 m2 n o → o ≡ f n → held s m2 ≡ held s m1 → Writes (held s m1) m1 m2 → KeepsTables s m1 m2
+    → Sweeps s m m2 first (n + 1) f
 sweeps-more s m m1 m2 first n f o le a b e frames memory keeps =
     record {
       shadow = b.shadow;
@@ -39,7 +41,8 @@ sweeps-more s m m1 m2 first n f o le a b e frames memory keeps =
     }
 
 -- pages that are already so
-pub sweeps-over : (s : Shadow) (m m' : List ℕ) (first n last : ℕ) (f : ℕ → Option Slot) → Sweeps s m m' first n f → n ≤ last → first ≤ n → ((page : ℕ) → page < 2 ^ 20 → n ≤ page → page < last → slot_at s m page ≡ f page) → Sweeps s m m' first last f
+pub sweeps-over : (s : Shadow) (m m' : List ℕ) (first n last : ℕ) (f : ℕ → Option Slot) → Sweeps s m m' first n f → n ≤ last → first ≤ n
+    → ((page : ℕ) → page < 2 ^ 20 → n ≤ page → page < last → slot_at s m page ≡ f page) → Sweeps s m m' first last f
 sweeps-over s m m' first n last f a le low h =
     record {
       shadow = a.shadow;
@@ -54,7 +57,9 @@ sweeps-over s m m' first n last f a le low h =
     }
 
 -- one pass after the other
-pub sweeps-trans : (s : Shadow) (m m1 m2 : List ℕ) (first n last : ℕ) (f g : ℕ → Option Slot) → first ≤ n → n ≤ last → Sweeps s m m1 first n f → Sweeps s m1 m2 n last g → ((page : ℕ) → page < 2 ^ 20 → n ≤ page → page < last → g page ≡ f page) → Sweeps s m m2 first last f
+pub sweeps-trans : (s : Shadow) (m m1 m2 : List ℕ) (first n last : ℕ) (f g : ℕ → Option Slot) → first ≤ n → n ≤ last
+    → Sweeps s m m1 first n f → Sweeps s m1 m2 n last g → ((page : ℕ) → page < 2 ^ 20 → n ≤ page → page < last → g page ≡ f page)
+    → Sweeps s m m2 first last f
 sweeps-trans s m m1 m2 first n last f g x y a b e =
     record {
       shadow = b.shadow;
@@ -72,7 +77,8 @@ sweeps-trans s m m1 m2 first n last f g x y a b e =
 
 -- ---- a directory index
 
-pub loses-dir : (s : Shadow) (m m' : List ℕ) (index : ℕ) → Sweeps s m m' (1024 * index) (1024 * index + 1024) (λ page. None) → LosesDir (slot_at s m) (slot_at s m') index
+pub loses-dir : (s : Shadow) (m m' : List ℕ) (index : ℕ) → Sweeps s m m' (1024 * index) (1024 * index + 1024) (λ page. None)
+    → LosesDir (slot_at s m) (slot_at s m') index
 loses-dir s m m' index a =
     record {
       gone = λ page l e. a.there page l (omega (arith, e)) (omega (arith, e));

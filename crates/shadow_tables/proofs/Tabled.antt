@@ -25,10 +25,12 @@ named-still : (w v : ℕ) → w ≢ 0 → (v ≡ w) ⊎ (v % 4096 ≡ 7) → v �
 named-still w v ne h = λ z. elim h [ inl e ↦ ne (sym e ∙ z) | inr e ↦ absurd (omega (arith, e, z)) ]
 
 pub opens-keep : (s : Shadow) (p p' : Pool) (m m' : List ℕ) (r d : ℕ) → Opens p p' m m' (roots s) r d → KeepsTables s m m'
-opens-keep s p p' m m' r d a = λ side index l ne. named-still (dir m (root_of s side) index) (dir m' (root_of s side) index) ne (a.dirs (root_of s side) index (in-root s side) l)
+opens-keep s p p' m m' r d a = λ side index l ne. named-still (dir m (root_of s side) index) (dir m' (root_of s side) index) ne
+    (a.dirs (root_of s side) index (in-root s side) l)
 
 -- where a table is there, nothing is to be done for it
-pub opens-there : (p p' : Pool) (m m' : List ℕ) (rs : List ℕ) (r d : ℕ) → Owns p m (owned m rs) → dir m r d ≢ 0 → p' ≡ p → m' ≡ m → Opens p p' m m' rs r d
+pub opens-there : (p p' : Pool) (m m' : List ℕ) (rs : List ℕ) (r d : ℕ) → Owns p m (owned m rs) → dir m r d ≢ 0 → p' ≡ p → m' ≡ m
+    → Opens p p' m m' rs r d
 opens-there p p' m m' rs r d o ne a b =
     subst (λ q. Opens p q m m' rs r d) (sym a) (subst (λ n. Opens p p m n rs r d) (sym b) (record {
       moves = Moves-refl p m (owned m rs) o.stands;
@@ -38,18 +40,29 @@ opens-there p p' m m' rs r d o ne a b =
       words = λ s q i l. refl;
     }))
 
-module _ (s : Shadow) (p p' : Pool) (m m1 m2 m3 : List ℕ) (side : Side) (r page v : ℕ) (l : page < 2 ^ 20) (root : r ≡ root_of s side) (same : held s m1 ≡ held s m) (keeps : KeepsTables s m m1)
-    (o : Opens p p' m1 m2 (roots s) r (page / 1024)) (unless : dir m1 r (page / 1024) ≢ 0 → m2 ≡ m1) (a : Puts m2 m3 (roots s) r page v) where
+module _ (s : Shadow) (p p' : Pool) (m m1 m2 m3 : List ℕ) (side : Side) (r page v : ℕ) (l : page < 2 ^ 20) (root : r ≡ root_of s side)
+    (same : held s m1 ≡ held s m) (keeps : KeepsTables s m m1)
+    (o : Opens p p' m1 m2 (roots s) r (page / 1024)) (unless : dir m1 r (page / 1024) ≢ 0 → m2 ≡ m1)
+    (a : Puts m2 m3 (roots s) r page v) where
   has_tables_under-there : HasTable s m3 side (page / 1024)
-  has_tables_under-there = puts-keep s m2 m3 r page v a side (page / 1024) (high page l) (subst (λ x. dir m2 x (page / 1024) ≢ 0) root o.some)
+  has_tables_under-there =
+      puts-keep s m2 m3 r page v a side (page / 1024) (high page l) (subst (λ x. dir m2 x (page / 1024) ≢ 0) root o.some)
 
   has_tables_under-others : KeepsTables s m m3
-  has_tables_under-others = keeps-trans s m m1 m3 keeps (keeps-trans s m1 m2 m3 (opens-keep s p p' m1 m2 r (page / 1024) o) (puts-keep s m2 m3 r page v a))
+  has_tables_under-others =
+      keeps-trans s m m1 m3 keeps (keeps-trans s m1 m2 m3 (opens-keep s p p' m1 m2 r (page / 1024) o) (puts-keep s m2 m3 r page v a))
 
   has_tables_under-already : HasTable s m side (page / 1024) → held s m3 ≡ held s m
-  has_tables_under-already ne = a.frames ∙ ap (held s) (unless (subst (λ x. dir m1 x (page / 1024) ≢ 0) (sym root) (keeps side (page / 1024) (high page l) ne))) ∙ same
+  has_tables_under-already ne = a.frames
+      ∙ ap (held s) (unless (subst (λ x. dir m1 x (page / 1024) ≢ 0) (sym root) (keeps side (page / 1024) (high page l) ne))) ∙ same
 
-  pub has_tables_under-table : Moves p p' m m3 (held s m) (held s m3) → length (free_list p m) ≤ length (free_list p' m3) + 1 → HasOpened s m m3 side (page / 1024)
+  pub has_tables_under-table : Moves p p' m m3 (held s m) (held s m3) → length (free_list p m) ≤ length (free_list p' m3) + 1
+      → HasOpened s m m3 side (page / 1024)
   has_tables_under-table w one =
       let e = w.lengths in
-      record { there = has_tables_under-there; others = has_tables_under-others; already = has_tables_under-already; one = omega (arith, e, one) }
+      record {
+        there = has_tables_under-there;
+        others = has_tables_under-others;
+        already = has_tables_under-already;
+        one = omega (arith, e, one);
+      }

@@ -48,13 +48,15 @@ all_spared frames other_roots = filter (λ a. not (list_any a.tables frames)) ot
 abbrev pub AllFit : List OtherRoot → Type 0
 AllFit [] = Unit {0}
 AllFit (a ∷ other_roots) =
-    ((page : ℕ) (slot : Slot) → page < 2 ^ 20 → a.slots page ≡ Some slot → (slot.entry.page ≡ page) × (slot.entry.frame < 2 ^ 20)) × AllFit other_roots
+    ((page : ℕ) (slot : Slot) → page < 2 ^ 20 → a.slots page ≡ Some slot → (slot.entry.page ≡ page) × (slot.entry.frame < 2 ^ 20))
+    × AllFit other_roots
 
 -- nothing that is kept gives a right to write to a frame of which the test is true
 abbrev pub AllBarred : (ℕ → Bool) → List OtherRoot → Type 0
 AllBarred test [] = Unit {0}
 AllBarred test (a ∷ other_roots) =
-    ((page : ℕ) (slot : Slot) → page < 2 ^ 20 → a.slots page ≡ Some slot → test slot.entry.frame ≡ true → slot.writes ≡ false) × AllBarred test other_roots
+    ((page : ℕ) (slot : Slot) → page < 2 ^ 20 → a.slots page ≡ Some slot → test slot.entry.frame ≡ true → slot.writes ≡ false)
+    × AllBarred test other_roots
 
 -- the test holds of every frame from which the tables of any of them were read
 abbrev pub AllProtected : (ℕ → Bool) → List OtherRoot → Type 0

@@ -91,4 +91,5 @@ of_roots [] = []
 of_roots (a ∷ other_roots) = of_root a ∷ of_roots other_roots
 
 abbrev pub seen_of : (ℕ → Option Slot) → (ℕ → Bool) → Bool → Option ℕ → List OtherRoot → Seen
-seen_of f tables stale cr3 other_roots = record { slots = of_pages f; read_from = tables; stale = stale; cr3 = cr3; other_roots = of_roots other_roots }
+seen_of f tables stale cr3 other_roots =
+    record { slots = of_pages f; read_from = tables; stale = stale; cr3 = cr3; other_roots = of_roots other_roots }

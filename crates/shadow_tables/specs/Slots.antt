@@ -41,7 +41,8 @@ worth b = if b then 1 else 0
 -- are ignored by the walk, and keep the entry's user, write and dirty flags; bits 12 to 31 are the frame.
 unfoldable pub word_of : Slot → ℕ
 word_of s =
-    4096 * s.entry.frame + 0x800 * worth s.entry.dirty + 0x400 * worth s.entry.write + 0x200 * worth s.entry.user + 4 + 2 * worth s.writes + worth s.reads
+    4096 * s.entry.frame + 0x800 * worth s.entry.dirty + 0x400 * worth s.entry.write + 0x200 * worth s.entry.user + 4
+    + 2 * worth s.writes + worth s.reads
 
 abbrev pub entry_of : ℕ → ℕ → Entry
 entry_of page word =

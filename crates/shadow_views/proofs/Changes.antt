@@ -29,12 +29,15 @@ pub at-none : (m : List ℕ) (r page : ℕ) → dir m r (page / 1024) ≡ 0 → 
 unfolding at
 at-none m r page e = by_dir-none m (dir m r (page / 1024)) (page % 1024) e
 
-pub at-some : (m : List ℕ) (r page : ℕ) → dir m r (page / 1024) ≢ 0 → at m r page ≡ word32 m (4096 * (dir m r (page / 1024) / 4096) + 4 * (page % 1024))
+pub at-some : (m : List ℕ) (r page : ℕ) → dir m r (page / 1024) ≢ 0
+    → at m r page ≡ word32 m (4096 * (dir m r (page / 1024) / 4096) + 4 * (page % 1024))
 unfolding at
 at-some m r page ne = by_dir-some m (dir m r (page / 1024)) (page % 1024) ne
 
 -- the word of a page is the same where the PDE is, and the table's frame
-pub at-same : (m m' : List ℕ) (r page : ℕ) → dir m' r (page / 1024) ≡ dir m r (page / 1024) → (dir m r (page / 1024) ≢ 0 → frame m' (dir m r (page / 1024) / 4096) ≡ frame m (dir m r (page / 1024) / 4096)) → at m' r page ≡ at m r page
+pub at-same : (m m' : List ℕ) (r page : ℕ) → dir m' r (page / 1024) ≡ dir m r (page / 1024)
+    → (dir m r (page / 1024) ≢ 0 → frame m' (dir m r (page / 1024) / 4096) ≡ frame m (dir m r (page / 1024) / 4096))
+    → at m' r page ≡ at m r page
 at-same m m' r page e f =
     elim (eqb_tells (dir m r (page / 1024)) 0) [
       | inl t ↦ at-none m' r page (e ∙ t.1) ∙ sym (at-none m r page t.1)
@@ -54,7 +57,8 @@ IsView-from_Holds m rs r h i =
 
 -- ---- one word of a page
 
-module _ (m rs : List ℕ) (r page v : ℕ) (h : Holds m (owned m rs)) (i : IsIn r rs) (l : page < 2 ^ 20) (ne : dir m r (page / 1024) ≢ 0) (b : v < 2 ^ 32) where
+module _ (m rs : List ℕ) (r page v : ℕ) (h : Holds m (owned m rs)) (i : IsIn r rs) (l : page < 2 ^ 20) (ne : dir m r (page / 1024) ≢ 0)
+    (b : v < 2 ^ 32) where
   put-fits : 4096 * (dir m r (page / 1024) / 4096) + 4096 ≤ length m
   put-fits = h.room (dir m r (page / 1024) / 4096) (owned-table m r (page / 1024) (dir m r (page / 1024) / 4096) rs i (high page l) ne refl)
 
@@ -106,7 +110,8 @@ module _ (m rs : List ℕ) (r page v : ℕ) (h : Holds m (owned m rs)) (i : IsIn
   pub puts : Puts m (with_at m r page v) rs r page v
   puts =
       record {
-        writes = Writes-but (owned m rs) m (with_at m r page v) (dir m r (page / 1024) / 4096) (owned-table m r (page / 1024) (dir m r (page / 1024) / 4096) rs i (high page l) ne refl) put-but;
+        writes = Writes-but (owned m rs) m (with_at m r page v) (dir m r (page / 1024) / 4096)
+            (owned-table m r (page / 1024) (dir m r (page / 1024) / 4096) rs i (high page l) ne refl) put-but;
         frames = owned-same m (with_at m r page v) rs put-dirs;
         dirs = put-dirs;
         there = put-there;
@@ -144,7 +149,8 @@ pub zero-dir : (m : List ℕ) (r d : ℕ) → frame m r ≡ replicate 4096 0 →
 unfolding dir
 zero-dir m r d e l = zero-word m r (4 * d) e (omega (arith, l))
 
-module _ (p p' : Pool) (m m' rs : List ℕ) (r d : ℕ) (o : Owns p m (owned m rs)) (i : IsIn r rs) (l : d < 1024) (z : dir m r d ≡ 0) (small : length m < 2 ^ 32) (g : Grows p p' m m' r d) where
+module _ (p p' : Pool) (m m' rs : List ℕ) (r d : ℕ) (o : Owns p m (owned m rs)) (i : IsIn r rs) (l : d < 1024) (z : dir m r d ≡ 0)
+    (small : length m < 2 ^ 32) (g : Grows p p' m m' r d) where
   grow-free : times g.frame (owned m rs) ≡ 0
   grow-free =
       let e = ap (times g.frame) g.takes.list in
@@ -168,7 +174,8 @@ module _ (p p' : Pool) (m m' rs : List ℕ) (r d : ℕ) (o : Owns p m (owned m r
   grow-but : SameBut r g.zeroed m'
   grow-but =
       let a = grow-room in
-      subst (λ (x : List ℕ). SameBut r g.zeroed x) (sym g.memory) (SameBut-with_word32 g.zeroed r (4 * d) (4096 * g.frame + 7) (omega (arith, a, l)) (omega (arith, l)))
+      subst (λ (x : List ℕ). SameBut r g.zeroed x) (sym g.memory)
+      (SameBut-with_word32 g.zeroed r (4 * d) (4096 * g.frame + 7) (omega (arith, a, l)) (omega (arith, l)))
 
   grow-dir : dir m' r d ≡ 4096 * g.frame + 7
   unfolding dir
@@ -271,11 +278,18 @@ module _ (p p' : Pool) (m m' rs : List ℕ) (r d : ℕ) (o : Owns p m (owned m r
 -- the table is there already
 pub opens-some : (p : Pool) (m rs : List ℕ) (r d : ℕ) → Owns p m (owned m rs) → dir m r d ≢ 0 → Opens p p m m rs r d
 opens-some p m rs r d o ne =
-    record { moves = Moves-writes p m m (owned m rs) o (Writes-refl (owned m rs) m); some = ne; one = omega arith; dirs = λ s e i l. inl refl; words = λ s q i l. refl }
+    record {
+      moves = Moves-writes p m m (owned m rs) o (Writes-refl (owned m rs) m);
+      some = ne;
+      one = omega arith;
+      dirs = λ s e i l. inl refl;
+      words = λ s q i l. refl;
+    }
 
 -- ---- a table that goes back
 
-module _ (p : Pool) (m m1 rs : List ℕ) (r d : ℕ) (o : Owns p m (owned m rs)) (i : IsIn r rs) (l : d < 1024) (ne : dir m r d ≢ 0) (w : m1 ≡ with_word32 m (4096 * r + 4 * d) 0) where
+module _ (p : Pool) (m m1 rs : List ℕ) (r d : ℕ) (o : Owns p m (owned m rs)) (i : IsIn r rs) (l : d < 1024) (ne : dir m r d ≢ 0)
+    (w : m1 ≡ with_word32 m (4096 * r + 4 * d) 0) where
   close-room : 4096 * r + 4096 ≤ length m
   close-room = (Holds-from_Owns p m (owned m rs) o).room r (owned-root m r rs i)
 
@@ -295,7 +309,8 @@ module _ (p : Pool) (m m1 rs : List ℕ) (r d : ℕ) (o : Owns p m (owned m rs))
       IsOut-same p m m1 (dir m r d / 4096) (free_list-writes p m m1 (owned m rs) o close-writes)
       (o.out (dir m r d / 4096) (owned-table m r d (dir m r d / 4096) rs i l ne refl))
 
-  module _ (p' : Pool) (m' : List ℕ) (list : free_list p' m' ≡ (dir m r d / 4096) ∷ free_list p m1) (stands : Stands p' m') (same : SameFrames p p') (memory : SameBut (dir m r d / 4096) m1 m') where
+  module _ (p' : Pool) (m' : List ℕ) (list : free_list p' m' ≡ (dir m r d / 4096) ∷ free_list p m1) (stands : Stands p' m')
+      (same : SameFrames p p') (memory : SameBut (dir m r d / 4096) m1 m') where
     close-not_root : (s : ℕ) → IsIn s rs → s ≢ dir m r d / 4096
     close-not_root s j = λ e. absurd (
         let two = owned-both m s r d rs j i l ne e in let once = o.once s in omega (arith, two, once))
@@ -324,7 +339,8 @@ module _ (p : Pool) (m m1 rs : List ℕ) (r d : ℕ) (o : Owns p m (owned m rs))
 
     close-owned : (f : ℕ) → times f (owned m rs) ≡ hit f (dir m r d / 4096) + times f (owned m' rs)
     close-owned f =
-        owned-grow m' m r d f rs i l (let a = o.once r in let b = roots-le m r rs in omega (arith, a, b)) (λ s e j k n. sym (close-dirs s e j k n)) close-gone ne
+        owned-grow m' m r d f rs i l (let a = o.once r in let b = roots-le m r rs in omega (arith, a, b))
+        (λ s e j k n. sym (close-dirs s e j k n)) close-gone ne
 
     close-moves : Moves p p' m m' (owned m rs) (owned m' rs)
     close-moves =
@@ -344,15 +360,18 @@ pub closes-none : (p : Pool) (m rs : List ℕ) (r d : ℕ) → Owns p m (owned m
 closes-none p m rs r d o z = record { moves = Moves-refl p m (owned m rs) o.stands; gone = z; dirs = λ s e i l n. refl }
 
 pub empties-none : (p : Pool) (m rs : List ℕ) (r : ℕ) → Owns p m (owned m rs) → Empties p p m m rs r 0
-empties-none p m rs r o = record { moves = Moves-refl p m (owned m rs) o.stands; gone = λ e l. absurd (omega (arith, l)); dirs = λ s e i l n. refl }
+empties-none p m rs r o =
+    record { moves = Moves-refl p m (owned m rs) o.stands; gone = λ e l. absurd (omega (arith, l)); dirs = λ s e i l n. refl }
 
-pub empties-more : (p p' p'' : Pool) (m m' m'' rs : List ℕ) (r n : ℕ) → n < 1024 → IsIn r rs → Empties p p' m m' rs r n → Closes p' p'' m' m'' rs r n → Empties p p'' m m'' rs r (n + 1)
+pub empties-more : (p p' p'' : Pool) (m m' m'' rs : List ℕ) (r n : ℕ) → n < 1024 → IsIn r rs → Empties p p' m m' rs r n
+    → Closes p' p'' m' m'' rs r n → Empties p p'' m m'' rs r (n + 1)
 empties-more p p' p'' m m' m'' rs r n l i a b =
     record {
       moves = Moves-trans p p' p'' m m' m'' (owned m rs) (owned m' rs) (owned m'' rs) a.moves b.moves;
       gone = λ e k. elim (eqb_tells e n) [
         | inl t ↦ ap (dir m'' r) t.1 ∙ b.gone
-        | inr t ↦ let k' : e < n = (let ne = t.1 in omega (arith, k, ne)) in b.dirs r e i (omega (arith, k', l)) (λ x y. t.1 y) ∙ a.gone e k'
+        | inr t ↦ let k' : e < n =
+            (let ne = t.1 in omega (arith, k, ne)) in b.dirs r e i (omega (arith, k', l)) (λ x y. t.1 y) ∙ a.gone e k'
       ];
       dirs = λ s e j k ne. b.dirs s e j k (λ x y. ne x) ∙ a.dirs s e j k ne;
     }
@@ -363,4 +382,5 @@ pub IsView-from_owned : (p : Pool) (m : List ℕ) (r : ℕ) → IsOwned p m r �
 IsView-from_owned p m r o = IsView-from_Holds m o.all r (Holds-from_Owns p m (owned m o.all) o.owns) o.root
 
 pub IsOwned-empties : (p p' : Pool) (m m' : List ℕ) (r n : ℕ) (o : IsOwned p m r) → Empties p p' m m' o.all r n → IsOwned p' m' r
-IsOwned-empties p p' m m' r n o e = record { all = o.all; owns = Owns-moves p p' m m' (owned m o.all) (owned m' o.all) o.owns e.moves; root = o.root }
+IsOwned-empties p p' m m' r n o e =
+    record { all = o.all; owns = Owns-moves p p' m m' (owned m o.all) (owned m' o.all) o.owns e.moves; root = o.root }

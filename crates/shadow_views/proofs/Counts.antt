@@ -51,20 +51,23 @@ tables-one m r (suc n) d f h ne e =
           omega (arith, k, s)
     ]
 
-tables-two_last : (m : List ℕ) (r n d f : ℕ) → d < n → dir m r d ≢ 0 → f ≡ dir m r d / 4096 → dir m r n ≢ 0 → f ≡ dir m r n / 4096 → 2 ≤ times f (with_table (dir m r n) (tables m r n))
+tables-two_last : (m : List ℕ) (r n d f : ℕ) → d < n → dir m r d ≢ 0 → f ≡ dir m r d / 4096 → dir m r n ≢ 0 → f ≡ dir m r n / 4096
+    → 2 ≤ times f (with_table (dir m r n) (tables m r n))
 tables-two_last m r n d f h ne e ne' e' =
     let i = tables-one m r n d f h ne e in
     let k = times-table f (dir m r n) (tables m r n) ne' in
     let s : hit f (dir m r n / 4096) ≡ 1 = ap (hit f) (sym e') ∙ hit-self f in
     omega (arith, i, k, s)
 
-pub tables-two : (m : List ℕ) (r n d e f : ℕ) → d < n → e < n → d ≢ e → dir m r d ≢ 0 → f ≡ dir m r d / 4096 → dir m r e ≢ 0 → f ≡ dir m r e / 4096 → 2 ≤ times f (tables m r n)
+pub tables-two : (m : List ℕ) (r n d e f : ℕ) → d < n → e < n → d ≢ e → dir m r d ≢ 0 → f ≡ dir m r d / 4096 → dir m r e ≢ 0
+    → f ≡ dir m r e / 4096 → 2 ≤ times f (tables m r n)
 unfolding tables
 tables-two m r zero d e f h k ne a b a' b' = absurd (omega (arith, h))
 tables-two m r (suc n) d e f h k ne a b a' b' =
     elim (last-or d n h) [
       | inl l ↦ elim (last-or e n k) [
-        | inl l' ↦ let i = tables-two m r n d e f l l' ne a b a' b' in let j = times-more f (dir m r n) (tables m r n) in omega (arith, i, j)
+        | inl l' ↦ let i =
+            tables-two m r n d e f l l' ne a b a' b' in let j = times-more f (dir m r n) (tables m r n) in omega (arith, i, j)
         | inr q' ↦ tables-two_last m r n d f l a b (subst (λ x. dir m r x ≢ 0) q' a') (b' ∙ ap (λ x. dir m r x / 4096) q')
       ]
       | inr q ↦ elim (last-or e n k) [
@@ -81,7 +84,8 @@ tables-same m m' r (suc n) h =
     ∙ ap (with_table (dir m r n)) (tables-same m m' r n (λ d l. h d (omega (arith, l))))
 
 -- one more table, under the PDE e
-pub tables-grow : (m m' : List ℕ) (r n e f : ℕ) → e < n → ((d : ℕ) → d < n → d ≢ e → dir m' r d ≡ dir m r d) → dir m r e ≡ 0 → dir m' r e ≢ 0 → times f (tables m' r n) ≡ hit f (dir m' r e / 4096) + times f (tables m r n)
+pub tables-grow : (m m' : List ℕ) (r n e f : ℕ) → e < n → ((d : ℕ) → d < n → d ≢ e → dir m' r d ≡ dir m r d) → dir m r e ≡ 0
+    → dir m' r e ≢ 0 → times f (tables m' r n) ≡ hit f (dir m' r e / 4096) + times f (tables m r n)
 unfolding tables
 tables-grow m m' r zero e f l h z s = absurd (omega (arith, l))
 tables-grow m m' r (suc n) e f l h z s =
@@ -89,9 +93,11 @@ tables-grow m m' r (suc n) e f l h z s =
       | inl k ↦
           let i = tables-grow m m' r n e f k (λ d b ne. h d (omega (arith, b)) ne) z s in
           let w : dir m' r n ≡ dir m r n = h n (omega arith) (λ q. omega (arith, q, k)) in
-          let a : times f (with_table (dir m' r n) (tables m' r n)) ≡ times f (with_table (dir m r n) (tables m' r n)) = ap (λ x. times f (with_table x (tables m' r n))) w in
+          let a : times f (with_table (dir m' r n) (tables m' r n)) ≡ times f (with_table (dir m r n) (tables m' r n)) =
+          ap (λ x. times f (with_table x (tables m' r n))) w in
           a ∙ elim (eqb_tells (dir m r n) 0) [
-            | inl t ↦ ap (times f) (with_table-none _ (tables m' r n) t.1) ∙ i ∙ ap (λ x. hit f (dir m' r e / 4096) + times f x) (sym (with_table-none _ (tables m r n) t.1))
+            | inl t ↦ ap (times f) (with_table-none _ (tables m' r n) t.1) ∙ i ∙ ap (λ x. hit f (dir m' r e / 4096) + times f x)
+                (sym (with_table-none _ (tables m r n) t.1))
             | inr t ↦
                 let b = times-table f (dir m r n) (tables m' r n) t.1 in
                 let c = times-table f (dir m r n) (tables m r n) t.1 in
@@ -110,7 +116,8 @@ tables-grow m m' r (suc n) e f l h z s =
 
 -- ---- the frames of all views
 
-pub owned-cons : (m : List ℕ) (f r : ℕ) (rs : List ℕ) → times f (owned m (r ∷ rs)) ≡ hit f r + (times f (tables m r 1024) + times f (owned m rs))
+pub owned-cons : (m : List ℕ) (f r : ℕ) (rs : List ℕ) → times f (owned m (r ∷ rs)) ≡ hit f r
+    + (times f (tables m r 1024) + times f (owned m rs))
 unfolding owned
 owned-cons m f r rs =
     times-cons f r (tables m r 1024 ++ owned m rs) ∙ ap (λ n. hit f r + n) (times-append f (tables m r 1024) (owned m rs))
@@ -124,7 +131,8 @@ owned-root m r (s ∷ rs) i =
       | inr j ↦ let k = owned-root m r rs j in omega (arith, c, k)
     ]
 
-pub owned-table : (m : List ℕ) (r d f : ℕ) (rs : List ℕ) → IsIn r rs → d < 1024 → dir m r d ≢ 0 → f ≡ dir m r d / 4096 → 1 ≤ times f (owned m rs)
+pub owned-table : (m : List ℕ) (r d f : ℕ) (rs : List ℕ) → IsIn r rs → d < 1024 → dir m r d ≢ 0 → f ≡ dir m r d / 4096
+    → 1 ≤ times f (owned m rs)
 owned-table m r d f [] i l ne e = absurd i
 owned-table m r d f (s ∷ rs) i l ne e =
     let c = owned-cons m f s rs in
@@ -135,7 +143,8 @@ owned-table m r d f (s ∷ rs) i l ne e =
     ]
 
 -- no table is a root
-pub owned-both : (m : List ℕ) (r s d : ℕ) (rs : List ℕ) → IsIn r rs → IsIn s rs → d < 1024 → dir m s d ≢ 0 → r ≡ dir m s d / 4096 → 2 ≤ times r (owned m rs)
+pub owned-both : (m : List ℕ) (r s d : ℕ) (rs : List ℕ) → IsIn r rs → IsIn s rs → d < 1024 → dir m s d ≢ 0 → r ≡ dir m s d / 4096
+    → 2 ≤ times r (owned m rs)
 owned-both m r s d [] i j l ne e = absurd i
 owned-both m r s d (t ∷ rs) i j l ne e =
     let c = owned-cons m r t rs in
@@ -143,7 +152,8 @@ owned-both m r s d (t ∷ rs) i j l ne e =
       | inl q ↦
           let h : hit r t ≡ 1 = ap (hit r) (sym q) ∙ hit-self r in
           elim j [
-            | inl p ↦ let k = tables-one m t 1024 d r l (subst (λ x. dir m x d ≢ 0) p ne) (e ∙ ap (λ x. dir m x d / 4096) p) in omega (arith, c, h, k)
+            | inl p ↦ let k =
+                tables-one m t 1024 d r l (subst (λ x. dir m x d ≢ 0) p ne) (e ∙ ap (λ x. dir m x d / 4096) p) in omega (arith, c, h, k)
             | inr v ↦ let k = owned-table m s d r rs v l ne e in omega (arith, c, h, k)
           ]
       | inr u ↦ elim j [
@@ -155,7 +165,8 @@ owned-both m r s d (t ∷ rs) i j l ne e =
     ]
 
 -- a table is of one PDE alone
-pub owned-sole : (m : List ℕ) (f r s d e : ℕ) (rs : List ℕ) → IsIn r rs → IsIn s rs → d < 1024 → e < 1024 → dir m r d ≢ 0 → f ≡ dir m r d / 4096 → dir m s e ≢ 0 → f ≡ dir m s e / 4096 → times f (owned m rs) ≤ 1 → (s ≡ r) × (e ≡ d)
+pub owned-sole : (m : List ℕ) (f r s d e : ℕ) (rs : List ℕ) → IsIn r rs → IsIn s rs → d < 1024 → e < 1024 → dir m r d ≢ 0
+    → f ≡ dir m r d / 4096 → dir m s e ≢ 0 → f ≡ dir m s e / 4096 → times f (owned m rs) ≤ 1 → (s ≡ r) × (e ≡ d)
 owned-sole m f r s d e [] i j ld le a b a' b' once = absurd i
 owned-sole m f r s d e (t ∷ rs) i j ld le a b a' b' once =
     let c = owned-cons m f t rs in
@@ -203,7 +214,9 @@ unfolding owned
 roots-le m f [] = omega arith
 roots-le m f (s ∷ rs) = let c = times-cons f s rs in let d = owned-cons m f s rs in let k = roots-le m f rs in omega (arith, c, d, k)
 
-pub owned-grow : (m m' : List ℕ) (r e f : ℕ) (rs : List ℕ) → IsIn r rs → e < 1024 → times r rs ≤ 1 → ((s d : ℕ) → IsIn s rs → d < 1024 → (s ≡ r → d ≡ e → ⊥) → dir m' s d ≡ dir m s d) → dir m r e ≡ 0 → dir m' r e ≢ 0 → times f (owned m' rs) ≡ hit f (dir m' r e / 4096) + times f (owned m rs)
+pub owned-grow : (m m' : List ℕ) (r e f : ℕ) (rs : List ℕ) → IsIn r rs → e < 1024 → times r rs ≤ 1
+    → ((s d : ℕ) → IsIn s rs → d < 1024 → (s ≡ r → d ≡ e → ⊥) → dir m' s d ≡ dir m s d) → dir m r e ≡ 0 → dir m' r e ≢ 0
+    → times f (owned m' rs) ≡ hit f (dir m' r e / 4096) + times f (owned m rs)
 owned-grow m m' r e f [] i l once h z s = absurd i
 owned-grow m m' r e f (t ∷ rs) i l once h z s =
     let c = owned-cons m f t rs in let c' = owned-cons m' f t rs in let o = times-cons r t rs in
@@ -212,7 +225,8 @@ owned-grow m m' r e f (t ∷ rs) i l once h z s =
           let one : hit r t ≡ 1 = ap (hit r) (sym q) ∙ hit-self r in
           let rest = owned-same m m' rs (λ u d j b. h u d (inr j) b (λ w x.
           let k = IsIn-times u rs j in let k' = ap (λ y. times y rs) w in omega (arith, o, one, k, k', once))) in
-          let g = tables-grow m m' t 1024 e f l (λ d b ne. h t d (inl refl) b (λ w x. ne x)) (subst (λ x. dir m x e ≡ 0) q z) (subst (λ x. dir m' x e ≢ 0) q s) in
+          let g = tables-grow m m' t 1024 e f l (λ d b ne. h t d (inl refl) b (λ w x. ne x)) (subst (λ x. dir m x e ≡ 0) q z)
+          (subst (λ x. dir m' x e ≢ 0) q s) in
           let v : hit f (dir m' r e / 4096) ≡ hit f (dir m' t e / 4096) = ap (λ x. hit f (dir m' x e / 4096)) q in
           let y = ap (times f) rest in
           omega (arith, c, c', g, v, y)
@@ -227,4 +241,5 @@ owned-grow m m' r e f (t ∷ rs) i l once h z s =
 pub tables-none : (m : List ℕ) (r n : ℕ) → ((d : ℕ) → d < n → dir m r d ≡ 0) → tables m r n ≡ []
 unfolding tables
 tables-none m r zero h = refl
-tables-none m r (suc n) h = with_table-none (dir m r n) (tables m r n) (h n (omega arith)) ∙ tables-none m r n (λ d l. h d (omega (arith, l)))
+tables-none m r (suc n) h =
+    with_table-none (dir m r n) (tables m r n) (h n (omega arith)) ∙ tables-none m r n (λ d l. h d (omega (arith, l)))

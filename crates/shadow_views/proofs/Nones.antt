@@ -64,7 +64,8 @@ abbrev pub AreNone : List ℕ → ℕ → ℕ → ℕ → Type 0
 AreNone m f first last = (j : ℕ) → first ≤ j → j < last → word32 m (4096 * f + 4 * j) ≡ 0
 
 -- and two more
-pub none-pairs : (m : List ℕ) (f first pair : ℕ) → IsNoneAt m (4096 * f + 8 * pair) → AreNone m f first (2 * pair) → AreNone m f first (2 * (pair + 1))
+pub none-pairs : (m : List ℕ) (f first pair : ℕ) → IsNoneAt m (4096 * f + 8 * pair) → AreNone m f first (2 * pair)
+    → AreNone m f first (2 * (pair + 1))
 none-pairs m f first pair n h j low high =
     elim (cases_lt j (2 * pair)) [
       | inl t ↦ h j low t
@@ -80,7 +81,8 @@ unfolding dir
 none-dirs m r first last h d low high = h d low high
 
 -- a view that has given back the tables before them has given back theirs too
-pub empties-over : (p q : Pool) (m n rs : List ℕ) (r first last : ℕ) → Empties p q m n rs r first → NoDirs n r first last → Empties p q m n rs r last
+pub empties-over : (p q : Pool) (m n rs : List ℕ) (r first last : ℕ) → Empties p q m n rs r first → NoDirs n r first last
+    → Empties p q m n rs r last
 empties-over p q m n rs r first last e h =
     record {
       moves = e.moves;
@@ -89,8 +91,10 @@ empties-over p q m n rs r first last e h =
     }
 
 -- and once one more is closed, one more
-pub emptied-more : (p q t : Pool) (m n k : List ℕ) (r d : ℕ) → d < 1024 → ((rs : List ℕ) → Owns p m (owned m rs) → IsIn r rs → Empties p q m n rs r d)
-    → ((rs : List ℕ) → Owns q n (owned n rs) → IsIn r rs → Closes q t n k rs r d) → (rs : List ℕ) → Owns p m (owned m rs) → IsIn r rs → Empties p t m k rs r (d + 1)
+pub emptied-more : (p q t : Pool) (m n k : List ℕ) (r d : ℕ) → d < 1024
+    → ((rs : List ℕ) → Owns p m (owned m rs) → IsIn r rs → Empties p q m n rs r d)
+    → ((rs : List ℕ) → Owns q n (owned n rs) → IsIn r rs → Closes q t n k rs r d) → (rs : List ℕ) → Owns p m (owned m rs) → IsIn r rs
+    → Empties p t m k rs r (d + 1)
 emptied-more p q t m n k r d l before closes rs o i =
     let e = before rs o i in
     empties-more p q t m n k rs r d l i e (closes rs (Owns-moves p q m n (owned m rs) (owned n rs) o e.moves) i)

@@ -42,17 +42,21 @@ second_read sites h = ap (λ (n : ℕ). cond (eqb n 50) (gapped_in (gapped sites
 abbrev pub of_format : List Site → ℕ → SitesParts
 of_format sites format = record { list = sites; format = format }
 
-first_spelled : (sites : List Site) → sites_in (placed sites) ≡ Ok (in_first sites) → sites_in (spelling (of_format sites 1)) ≡ Ok (of_format sites 1)
+first_spelled : (sites : List Site) → sites_in (placed sites) ≡ Ok (in_first sites)
+    → sites_in (spelling (of_format sites 1)) ≡ Ok (of_format sites 1)
 unfolding spelling
 first_spelled sites h = h
 
-second_spelled : (sites : List Site) → sites_in (gapped sites) ≡ Ok (in_second sites) → sites_in (spelling (of_format sites 2)) ≡ Ok (of_format sites 2)
+second_spelled : (sites : List Site) → sites_in (gapped sites) ≡ Ok (in_second sites)
+    → sites_in (spelling (of_format sites 2)) ≡ Ok (of_format sites 2)
 unfolding spelling
 second_spelled sites h = h
 
 pub spelled_read : (s : SitesParts) → IsInForm s → length s.list < 2 ^ 32 → sites_in (spelling s) ≡ Ok s
-spelled_read s (inl (is, are)) few = subst (λ (n : ℕ). sites_in (spelling (of_format s.list n)) ≡ Ok (of_format s.list n)) (sym is) (first_spelled s.list (first_read s.list (placed_read s.list are few)))
-spelled_read s (inr (is, are)) few = subst (λ (n : ℕ). sites_in (spelling (of_format s.list n)) ≡ Ok (of_format s.list n)) (sym is) (second_spelled s.list (second_read s.list (gapped_read s.list are few)))
+spelled_read s (inl (is, are)) few = subst (λ (n : ℕ). sites_in (spelling (of_format s.list n)) ≡ Ok (of_format s.list n)) (sym is)
+    (first_spelled s.list (first_read s.list (placed_read s.list are few)))
+spelled_read s (inr (is, are)) few = subst (λ (n : ℕ). sites_in (spelling (of_format s.list n)) ≡ Ok (of_format s.list n)) (sym is)
+    (second_spelled s.list (second_read s.list (gapped_read s.list are few)))
 
 spelling_first : (s : SitesParts) → s.format ≡ 1 → spelling s ≡ placed s.list
 unfolding spelling
@@ -62,7 +66,8 @@ spelling_second : (s : SitesParts) → s.format ≡ 2 → spelling s ≡ gapped 
 unfolding spelling
 spelling_second s is = ap (λ (n : ℕ). cond (eqb n 2) (gapped s.list) (placed s.list)) is
 
-in_either : (bytes : List ℕ) (s : SitesParts) (b : Bool) → eqb (byte bytes 3) 50 ≡ b → sites_in bytes ≡ Ok s → cond b (gapped_in bytes) (placed_in bytes) ≡ Ok s
+in_either : (bytes : List ℕ) (s : SitesParts) (b : Bool) → eqb (byte bytes 3) 50 ≡ b → sites_in bytes ≡ Ok s
+    → cond b (gapped_in bytes) (placed_in bytes) ≡ Ok s
 unfolding sites_in
 in_either bytes s b is e = subst (λ (x : Bool). cond x (gapped_in bytes) (placed_in bytes) ≡ Ok s) is e
 
@@ -121,14 +126,20 @@ length-gap_sites bytes from (suc n) a = ap suc (length-gap_sites bytes (end_at b
 first_count : (bytes : List ℕ) (s : SitesParts) → placed_in bytes ≡ Ok s → (8 ≤ length bytes) × (length s.list ≡ word32 bytes 4)
 unfolding placed_in
 first_count bytes s e =
-    let ok = unless_ok (option_or (head_fault bytes 49) (sites_fault bytes 0 (word32 bytes 4) 8)) (in_first (sites_at bytes (word32 bytes 4) 8)) s e in
-    ((head_was bytes 49 (else_none (head_fault bytes 49) (sites_fault bytes 0 (word32 bytes 4) 8) ok.0).0).0, ap (λ (x : SitesParts). length x.list) (sym ok.1) ∙ length-sites_at bytes (word32 bytes 4) 8)
+    let ok = unless_ok (option_or (head_fault bytes 49) (sites_fault bytes 0 (word32 bytes 4) 8))
+    (in_first (sites_at bytes (word32 bytes 4) 8)) s e in (
+      (head_was bytes 49 (else_none (head_fault bytes 49) (sites_fault bytes 0 (word32 bytes 4) 8) ok.0).0).0,
+      ap (λ (x : SitesParts). length x.list) (sym ok.1) ∙ length-sites_at bytes (word32 bytes 4) 8,
+    )
 
 second_count : (bytes : List ℕ) (s : SitesParts) → gapped_in bytes ≡ Ok s → (8 ≤ length bytes) × (length s.list ≡ word32 bytes 4)
 unfolding gapped_in
 second_count bytes s e =
-    let ok = unless_ok (option_or (head_fault bytes 50) (gaps_fault bytes 0 (word32 bytes 4) 8)) (in_second (gap_sites bytes 0 (word32 bytes 4) 8)) s e in
-    ((head_was bytes 50 (else_none (head_fault bytes 50) (gaps_fault bytes 0 (word32 bytes 4) 8) ok.0).0).0, ap (λ (x : SitesParts). length x.list) (sym ok.1) ∙ length-gap_sites bytes 0 (word32 bytes 4) 8)
+    let ok = unless_ok (option_or (head_fault bytes 50) (gaps_fault bytes 0 (word32 bytes 4) 8))
+    (in_second (gap_sites bytes 0 (word32 bytes 4) 8)) s e in (
+      (head_was bytes 50 (else_none (head_fault bytes 50) (gaps_fault bytes 0 (word32 bytes 4) 8) ok.0).0).0,
+      ap (λ (x : SitesParts). length x.list) (sym ok.1) ∙ length-gap_sites bytes 0 (word32 bytes 4) 8,
+    )
 
 counted_on : (b : Bool) (n m : ℕ) → b ≡ false → m ≡ n → m ≡ cond b 0 n
 counted_on true n m below is = cc
@@ -145,13 +156,15 @@ counted bytes s e = by (eqb (byte bytes 3) 50) (in_either bytes s (eqb (byte byt
     by true h = of_count (second_count bytes s h)
     by false h = of_count (first_count bytes s h)
 
-pub if_counted : (bytes : List ℕ) (r : Result SitesParts SitesFault) → Gives r (sites_in bytes) → IfOk r (λ s. length s.list ≡ told_count bytes)
+pub if_counted : (bytes : List ℕ) (r : Result SitesParts SitesFault) → Gives r (sites_in bytes)
+    → IfOk r (λ s. length s.list ≡ told_count bytes)
 if_counted bytes (Ok s) given = counted bytes s given
 if_counted bytes (Err e) given = tt
 
 -- ---- of what `read_sites` and `write_sites` returned
 
-pub if_spelled : (bytes : List ℕ) (r : Result SitesParts SitesFault) → AreBytes bytes → Gives r (sites_in bytes) → IfOk r (λ s. (bytes ≡ spelling s) × IsInForm s)
+pub if_spelled : (bytes : List ℕ) (r : Result SitesParts SitesFault) → AreBytes bytes → Gives r (sites_in bytes)
+    → IfOk r (λ s. (bytes ≡ spelling s) × IsInForm s)
 if_spelled bytes (Ok s) fits given = read_spelled bytes s fits given
 if_spelled bytes (Err e) fits given = tt
 
@@ -168,7 +181,8 @@ fewest : (s : SitesParts) → IsInForm s → 8 + 5 * length s.list ≤ length (s
 fewest s (inl (is, are)) = omega (arith, ap length (spelling_first s is), length-placed s.list)
 fewest s (inr (is, are)) = omega (arith, ap length (spelling_second s is), length-gapped s.list)
 
-pub only_spelled : (bytes : List ℕ) (r : Result SitesParts SitesFault) → length bytes < 2 ^ 32 → Gives r (sites_in bytes) → (sites : SitesParts) → IsInForm sites → bytes ≡ spelling sites → Gives r (Ok sites)
+pub only_spelled : (bytes : List ℕ) (r : Result SitesParts SitesFault) → length bytes < 2 ^ 32 → Gives r (sites_in bytes)
+    → (sites : SitesParts) → IsInForm sites → bytes ≡ spelling sites → Gives r (Ok sites)
 only_spelled bytes r small given sites are is =
     let few : length sites.list < 2 ^ 32 = omega (arith, ap length is, fewest sites are) in
     subst (λ (read : Result SitesParts ℕ). Gives r read) (ap sites_in is ∙ spelled_read sites are few) given

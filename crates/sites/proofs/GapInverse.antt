@@ -25,7 +25,8 @@ use Rattle.sites.proofs.Inverse.{kind_numbered-number, number-kind, byte-behind,
 
 -- ---- what is spelled is read so
 
-three : (from at : ℕ) → from ≤ at → at < from + 2 ^ 24 → from + ((at - from) % 256 + 256 * ((at - from) / 256 % 256) + 65536 * ((at - from) / 256 / 256)) ≡ at
+three : (from at : ℕ) → from ≤ at → at < from + 2 ^ 24 → from
+    + ((at - from) % 256 + 256 * ((at - from) / 256 % 256) + 65536 * ((at - from) / 256 / 256)) ≡ at
 three from at le lt = omega arith
 
 -- the fields of a site that stands after other bytes, and after a site that ends at `from`
@@ -35,7 +36,8 @@ record Follows (bytes : List ℕ) (from a : ℕ) (s : Site) : Type 0 where
   kind : byte bytes (a + 3) ≡ number s.kind
   len : byte bytes (a + 4) ≡ s.len
 
-follows : (front rest : List ℕ) (from a : ℕ) (s : Site) → length front ≡ a → from ≤ s.at → s.at < from + 2 ^ 24 → Follows (front ++ (gap from s ++ rest)) from a s
+follows : (front rest : List ℕ) (from a : ℕ) (s : Site) → length front ≡ a → from ≤ s.at → s.at < from + 2 ^ 24
+    → Follows (front ++ (gap from s ++ rest)) from a s
 unfolding byte
 follows front rest from a s e le lt =
     let bytes = front ++ (gap from s ++ rest) in
@@ -58,7 +60,8 @@ in_range n some most = rw (lt-ltb 0 n (omega arith), lt-ltb n 12 (omega arith)) 
 
 no_kind_there : (bytes : List ℕ) (at : ℕ) (k : SiteKind) → byte bytes at ≡ number k → has_no_kind bytes at ≡ false
 no_kind_there bytes at k is =
-    let kind : is_none (kind_numbered (byte bytes at)) ≡ false = ap (λ (n : ℕ). is_none (kind_numbered n)) is ∙ ap is_none (kind_numbered-number k) in
+    let kind : is_none (kind_numbered (byte bytes at)) ≡ false =
+    ap (λ (n : ℕ). is_none (kind_numbered n)) is ∙ ap is_none (kind_numbered-number k) in
     ap (λ (b : Bool). ltb at (length bytes) && b) kind ∙ and_false (ltb at (length bytes))
   where
     and_false : (b : Bool) → (b && false) ≡ false
@@ -69,34 +72,43 @@ good_parts : (p k l : Bool) (bytes : List ℕ) (a : ℕ) → p ≡ false → k �
     → option_or (then_some p a) (option_or (then_some k (a + 3)) (option_or (then_some l (a + 4)) (cut_before bytes (a + 5)))) ≡ None
 good_parts p k l bytes a p_not k_not l_not room = rw (p_not, k_not, l_not, le-ltb (length bytes) (a + 5) room) refl
 
-not_bad_there : (bytes : List ℕ) (from a : ℕ) (s : Site) → Follows bytes from a s → 1 ≤ s.len → s.len ≤ 11 → s.total ≡ max 5 s.len → s.at + s.total < 2 ^ 32 → gap_fault bytes from a ≡ None
+not_bad_there : (bytes : List ℕ) (from a : ℕ) (s : Site) → Follows bytes from a s → 1 ≤ s.len → s.len ≤ 11 → s.total ≡ max 5 s.len → s.at
+    + s.total < 2 ^ 32 → gap_fault bytes from a ≡ None
 unfolding gap_fault
 not_bad_there bytes from a s is some most total end =
     let room = is.room in
     let small : ltb 4294967295 (end_at bytes from a) ≡ false = le-ltb _ _ (omega (arith, ends bytes from a s is total)) in
     let p : passes bytes from a ≡ false = rw (le-ltb (length bytes) (a + 3) (omega arith), small) refl in
-    let l : has_wrong_length bytes (a + 4) ≡ false = rw (lt-ltb (a + 4) (length bytes) (omega arith), is.len, in_range s.len some most) refl in
-    good_parts (passes bytes from a) (has_no_kind bytes (a + 3)) (has_wrong_length bytes (a + 4)) bytes a p (no_kind_there bytes (a + 3) s.kind is.kind) l room
+    let l : has_wrong_length bytes (a + 4) ≡ false =
+    rw (lt-ltb (a + 4) (length bytes) (omega arith), is.len, in_range s.len some most) refl in
+    good_parts (passes bytes from a) (has_no_kind bytes (a + 3)) (has_wrong_length bytes (a + 4)) bytes a p
+    (no_kind_there bytes (a + 3) s.kind is.kind) l room
 
 read_there : (bytes : List ℕ) (from a : ℕ) (s : Site) → Follows bytes from a s → s.total ≡ max 5 s.len → gap_site bytes from a ≡ s
 unfolding gap_site
 read_there bytes from a s is total =
-    let k : unwrap_or (kind_numbered (byte bytes (a + 3))) Cli ≡ s.kind = ap (λ (n : ℕ). unwrap_or (kind_numbered n) Cli) is.kind ∙ ap (λ (o : Option SiteKind). unwrap_or o Cli) (kind_numbered-number s.kind) in
+    let k : unwrap_or (kind_numbered (byte bytes (a + 3))) Cli ≡ s.kind = ap (λ (n : ℕ). unwrap_or (kind_numbered n) Cli) is.kind
+    ∙ ap (λ (o : Option SiteKind). unwrap_or o Cli) (kind_numbered-number s.kind) in
     rw (is.at, k, is.len, ← total) refl
 
 gaps_read : (sites : List Site) (front : List ℕ) (from a : ℕ) → length front ≡ a → AreInGaps from sites
-    → (gaps_fault (front ++ gaps from sites) from (length sites) a ≡ None) × (gap_sites (front ++ gaps from sites) from (length sites) a ≡ sites)
+    → (gaps_fault (front ++ gaps from sites) from (length sites) a ≡ None)
+    × (gap_sites (front ++ gaps from sites) from (length sites) a ≡ sites)
 unfolding gaps gaps_fault gap_sites
 gaps_read [] front from a e are = (rw (le-ltb a (length (front ++ [])) (omega (arith, length-append front []))) refl, refl)
 gaps_read (s ∷ sites) front from a e (rises, near, some, most, total, end, are) =
     let bytes = front ++ (gap from s ++ gaps (s.at + s.total) sites) in
     let is = follows front (gaps (s.at + s.total) sites) from a s e rises near in
-    let regrouped : (front ++ gap from s) ++ gaps (s.at + s.total) sites ≡ bytes = append_assoc front (gap from s) (gaps (s.at + s.total) sites) in
+    let regrouped : (front ++ gap from s) ++ gaps (s.at + s.total) sites ≡ bytes =
+    append_assoc front (gap from s) (gaps (s.at + s.total) sites) in
     let rest = gaps_read sites (front ++ gap from s) (s.at + s.total) (a + 5) (omega (arith, length-append front (gap from s))) are in
-    let rest = subst (λ (x : List ℕ). (gaps_fault x (s.at + s.total) (length sites) (a + 5) ≡ None) × (gap_sites x (s.at + s.total) (length sites) (a + 5) ≡ sites)) regrouped rest in
+    let rest =
+    subst (λ (x : List ℕ). (gaps_fault x (s.at + s.total) (length sites) (a + 5) ≡ None)
+    × (gap_sites x (s.at + s.total) (length sites) (a + 5) ≡ sites)) regrouped rest in
     let next = ends bytes from a s is total in (
       rw (not_bad_there bytes from a s is some most total end) (ap (λ (n : ℕ). gaps_fault bytes n (length sites) (a + 5)) next ∙ rest.0),
-      ap (λ (x : Site). x ∷ gap_sites bytes (end_at bytes from a) (length sites) (a + 5)) (read_there bytes from a s is total) ∙ ap (λ (n : ℕ). s ∷ gap_sites bytes n (length sites) (a + 5)) next ∙ ap (λ (r : List Site). s ∷ r) rest.1,
+      ap (λ (x : Site). x ∷ gap_sites bytes (end_at bytes from a) (length sites) (a + 5)) (read_there bytes from a s is total)
+          ∙ ap (λ (n : ℕ). s ∷ gap_sites bytes n (length sites) (a + 5)) next ∙ ap (λ (r : List Site). s ∷ r) rest.1,
     )
 
 pub gapped_read : (sites : List Site) → AreInGaps 0 sites → length sites < 2 ^ 32 → gapped_in (gapped sites) ≡ Ok (in_second sites)
@@ -104,11 +116,14 @@ unfolding gapped byte word32 part gapped_in
 gapped_read sites are lt =
     let front : List ℕ = 80 ∷ 86 ∷ 83 ∷ 50 ∷ to_le_bytes w32 (length sites) in
     let count : word32 (gapped sites) 4 ≡ length sites = from_le_bytes-to_le_bytes_4 (length sites) lt in
-    let head : head_fault (gapped sites) 50 ≡ None = head_good (gapped sites) 50 (omega (arith, length-append front (gaps 0 sites))) refl refl refl refl in
+    let head : head_fault (gapped sites) 50 ≡ None =
+    head_good (gapped sites) 50 (omega (arith, length-append front (gaps 0 sites))) refl refl refl refl in
     let rest = gaps_read sites front 0 8 refl are in
-    let none : option_or (head_fault (gapped sites) 50) (gaps_fault (gapped sites) 0 (word32 (gapped sites) 4) 8) ≡ None = rw (head, count) rest.0 in
+    let none : option_or (head_fault (gapped sites) 50) (gaps_fault (gapped sites) 0 (word32 (gapped sites) 4) 8) ≡ None =
+    rw (head, count) rest.0 in
     let all : gap_sites (gapped sites) 0 (word32 (gapped sites) 4) 8 ≡ sites = rw count rest.1 in
-    unless_none (option_or (head_fault (gapped sites) 50) (gaps_fault (gapped sites) 0 (word32 (gapped sites) 4) 8)) (in_second (gap_sites (gapped sites) 0 (word32 (gapped sites) 4) 8)) none ∙ ap (λ (v : List Site). Ok (in_second v)) all
+    unless_none (option_or (head_fault (gapped sites) 50) (gaps_fault (gapped sites) 0 (word32 (gapped sites) 4) 8))
+    (in_second (gap_sites (gapped sites) 0 (word32 (gapped sites) 4) 8)) none ∙ ap (λ (v : List Site). Ok (in_second v)) all
 
 -- ---- what is read is spelled so
 
@@ -144,11 +159,19 @@ was_gap bytes from a e =
     let n2 = else_none f2 f3 n1.1 in
     let room : a + 5 ≤ length bytes = ltb-false _ _ (then_none (ltb (length bytes) (a + 5)) (length bytes) n2.1) in
     let here : not (ltb (length bytes) (a + 3)) ≡ true = ap not (le-ltb (length bytes) (a + 3) (omega arith)) in
-    let size = was_range (byte bytes (a + 4)) (second_false (ltb (a + 4) (length bytes)) (not (ltb 0 (byte bytes (a + 4)) && ltb (byte bytes (a + 4)) 12)) (lt-ltb _ _ (omega arith)) (then_none (has_wrong_length bytes (a + 4)) (a + 4) n2.0)) in
+    let size = was_range (byte bytes (a + 4))
+    (second_false (ltb (a + 4) (length bytes)) (not (ltb 0 (byte bytes (a + 4)) && ltb (byte bytes (a + 4)) 12)) (lt-ltb _ _ (omega arith))
+    (then_none (has_wrong_length bytes (a + 4)) (a + 4) n2.0)) in
     record {
       room = room;
-      end = omega (arith, ltb-false _ _ (second_false (not (ltb (length bytes) (a + 3))) (ltb 4294967295 (end_at bytes from a)) here (then_none (passes bytes from a) a n0.0)));
-      kind = second_false (ltb (a + 3) (length bytes)) (is_none (kind_numbered (byte bytes (a + 3)))) (lt-ltb _ _ (omega arith)) (then_none (has_no_kind bytes (a + 3)) (a + 3) n1.0);
+      end =
+          omega (
+            arith,
+            ltb-false _ _ (second_false (not (ltb (length bytes) (a + 3))) (ltb 4294967295 (end_at bytes from a)) here
+                (then_none (passes bytes from a) a n0.0)),
+          );
+      kind = second_false (ltb (a + 3) (length bytes)) (is_none (kind_numbered (byte bytes (a + 3)))) (lt-ltb _ _ (omega arith))
+          (then_none (has_no_kind bytes (a + 3)) (a + 3) n1.0);
       some = size.0;
       most = size.1;
     }
@@ -162,12 +185,20 @@ five (a ∷ b ∷ c ∷ d ∷ []) e = absurd (omega arith)
 five (a ∷ b ∷ c ∷ d ∷ x ∷ []) e = refl
 five (a ∷ b ∷ c ∷ d ∷ x ∷ y ∷ xs) e = absurd (omega arith)
 
-part-five : (bytes : List ℕ) (a : ℕ) → a + 5 ≤ length bytes → part bytes a 5 ≡ byte bytes a ∷ byte bytes (a + 1) ∷ byte bytes (a + 2) ∷ byte bytes (a + 3) ∷ byte bytes (a + 4) ∷ []
+part-five : (bytes : List ℕ) (a : ℕ) → a + 5 ≤ length bytes → part bytes a 5 ≡ byte bytes a ∷ byte bytes (a + 1) ∷ byte bytes (a + 2) ∷ byte
+    bytes (a + 3) ∷ byte bytes (a + 4) ∷ []
 unfolding byte
 part-five bytes a room =
     let zero_more : a + 0 ≡ a = omega arith in
-    let b0 : get_or (part bytes a 5) 0 0 ≡ get_or bytes a 0 = get_or-part bytes a 5 0 (omega arith) ∙ ap (λ (k : ℕ). get_or bytes k 0) zero_more in
-    five (part bytes a 5) (length-part bytes a 5 room) ∙ rw (b0, get_or-part bytes a 5 1 (omega arith), get_or-part bytes a 5 2 (omega arith), get_or-part bytes a 5 3 (omega arith), get_or-part bytes a 5 4 (omega arith)) refl
+    let b0 : get_or (part bytes a 5) 0 0 ≡ get_or bytes a 0 =
+    get_or-part bytes a 5 0 (omega arith) ∙ ap (λ (k : ℕ). get_or bytes k 0) zero_more in
+    five (part bytes a 5) (length-part bytes a 5 room) ∙ rw (
+      b0,
+      get_or-part bytes a 5 1 (omega arith),
+      get_or-part bytes a 5 2 (omega arith),
+      get_or-part bytes a 5 3 (omega arith),
+      get_or-part bytes a 5 4 (omega arith),
+    ) refl
 
 low : (from a b c : ℕ) → a < 2 ^ 8 → b < 2 ^ 8 → c < 2 ^ 8 → (from + (a + 256 * b + 65536 * c) - from) % 256 ≡ a
 low from a b c la lb lc = omega arith
@@ -194,7 +225,8 @@ drop-five : (bytes : List ℕ) (a : ℕ) → drop a bytes ≡ part bytes a 5 ++ 
 unfolding part
 drop-five bytes a = sym (take-append-drop 5 (drop a bytes)) ∙ ap (λ (x : List ℕ). take 5 (drop a bytes) ++ x) (drop-drop 5 a bytes)
 
-at_least : (bytes : List ℕ) (from a : ℕ) → AreBytes bytes → WasGap bytes from a → (rest : List Site) → AreInGaps (end_at bytes from a) rest → AreInGaps from (gap_site bytes from a ∷ rest)
+at_least : (bytes : List ℕ) (from a : ℕ) → AreBytes bytes → WasGap bytes from a → (rest : List Site) → AreInGaps (end_at bytes from a) rest
+    → AreInGaps from (gap_site bytes from a ∷ rest)
 unfolding gap_site
 at_least bytes from a fits was rest are =
     let b0 = byte_lt bytes a fits in
@@ -207,7 +239,8 @@ record AreSpelled (bytes : List ℕ) (from n a : ℕ) : Type 0 where
   are : AreInGaps from (gap_sites bytes from n a)
   count : length (gap_sites bytes from n a) ≡ n
 
-gap_next : (bytes : List ℕ) (from a : ℕ) (rest : List Site) → gaps from (gap_site bytes from a ∷ rest) ≡ gap from (gap_site bytes from a) ++ gaps (end_at bytes from a) rest
+gap_next : (bytes : List ℕ) (from a : ℕ) (rest : List Site) → gaps from (gap_site bytes from a ∷ rest) ≡ gap from (gap_site bytes from a)
+    ++ gaps (end_at bytes from a) rest
 unfolding gaps gap_site
 gap_next bytes from a rest = refl
 
@@ -217,18 +250,26 @@ no_gaps from bytes h = h
 
 gaps_spelled : (n : ℕ) (bytes : List ℕ) (from a : ℕ) → AreBytes bytes → gaps_fault bytes from n a ≡ None → AreSpelled bytes from n a
 unfolding gaps_fault gap_sites
-gaps_spelled zero bytes from a fits e = record { rest = no_gaps from (drop a bytes) (drop_all a bytes (ltb-false _ _ (then_none (ltb a (length bytes)) a e))); are = tt; count = refl }
+gaps_spelled zero bytes from a fits e =
+    record {
+      rest = no_gaps from (drop a bytes) (drop_all a bytes (ltb-false _ _ (then_none (ltb a (length bytes)) a e)));
+      are = tt;
+      count = refl;
+    }
 gaps_spelled (suc n) bytes from a fits e =
     let both = else_none (gap_fault bytes from a) (gaps_fault bytes (end_at bytes from a) n (a + 5)) e in
     let was = was_gap bytes from a both.0 in
     let others = gaps_spelled n bytes (end_at bytes from a) (a + 5) fits both.1 in
     record {
-      rest = drop-five bytes a ∙ rw (gap-part bytes from a fits was) (ap (λ (x : List ℕ). gap from (gap_site bytes from a) ++ x) others.rest) ∙ sym (gap_next bytes from a (gap_sites bytes (end_at bytes from a) n (a + 5)));
+      rest = drop-five bytes a
+          ∙ rw (gap-part bytes from a fits was) (ap (λ (x : List ℕ). gap from (gap_site bytes from a) ++ x) others.rest)
+          ∙ sym (gap_next bytes from a (gap_sites bytes (end_at bytes from a) n (a + 5)));
       are = at_least bytes from a fits was (gap_sites bytes (end_at bytes from a) n (a + 5)) others.are;
       count = ap suc others.count;
     }
 
-pub gapped_was : (bytes : List ℕ) (sites : SitesParts) → AreBytes bytes → gapped_in bytes ≡ Ok sites → (bytes ≡ gapped sites.list) × AreInGaps 0 sites.list × (sites.format ≡ 2)
+pub gapped_was : (bytes : List ℕ) (sites : SitesParts) → AreBytes bytes → gapped_in bytes ≡ Ok sites → (bytes ≡ gapped sites.list)
+    × AreInGaps 0 sites.list × (sites.format ≡ 2)
 unfolding gapped_in gapped
 gapped_was bytes sites fits e =
     let n = word32 bytes 4 in
@@ -237,9 +278,13 @@ gapped_was bytes sites fits e =
     let head = head_was bytes 50 both.0 in
     let room : 8 ≤ length bytes = head.0 in
     let all = gaps_spelled n bytes 0 8 fits both.1 in
-    let eight : part bytes 0 8 ≡ (80 ∷ 86 ∷ 83 ∷ 50 ∷ []) ++ to_le_bytes w32 n = sym (part-append bytes 0 4 4) ∙ ap (λ (x : List ℕ). x ++ part bytes 4 4) head.1 ∙ ap (λ (x : List ℕ). (80 ∷ 86 ∷ 83 ∷ 50 ∷ []) ++ x) (part-word bytes 4 fits (omega arith)) in
-    let whole : bytes ≡ ((80 ∷ 86 ∷ 83 ∷ 50 ∷ []) ++ to_le_bytes w32 n) ++ gaps 0 (gap_sites bytes 0 n 8) = drop-eight bytes 0 ∙ rw (eight, all.rest) refl in
-    let counted : bytes ≡ gapped (gap_sites bytes 0 n 8) = subst (λ (k : ℕ). bytes ≡ ((80 ∷ 86 ∷ 83 ∷ 50 ∷ []) ++ to_le_bytes w32 k) ++ gaps 0 (gap_sites bytes 0 n 8)) (sym all.count) whole in
+    let eight : part bytes 0 8 ≡ (80 ∷ 86 ∷ 83 ∷ 50 ∷ []) ++ to_le_bytes w32 n = sym (part-append bytes 0 4 4)
+    ∙ ap (λ (x : List ℕ). x ++ part bytes 4 4) head.1 ∙ ap (λ (x : List ℕ). (80 ∷ 86 ∷ 83 ∷ 50 ∷ []) ++ x)
+    (part-word bytes 4 fits (omega arith)) in
+    let whole : bytes ≡ ((80 ∷ 86 ∷ 83 ∷ 50 ∷ []) ++ to_le_bytes w32 n) ++ gaps 0 (gap_sites bytes 0 n 8) =
+    drop-eight bytes 0 ∙ rw (eight, all.rest) refl in
+    let counted : bytes ≡ gapped (gap_sites bytes 0 n 8) =
+    subst (λ (k : ℕ). bytes ≡ ((80 ∷ 86 ∷ 83 ∷ 50 ∷ []) ++ to_le_bytes w32 k) ++ gaps 0 (gap_sites bytes 0 n 8)) (sym all.count) whole in
     subst (λ (v : SitesParts). (bytes ≡ gapped v.list) × AreInGaps 0 v.list × (v.format ≡ 2)) ok.1 (counted, all.are, refl)
 
 pub length-gaps : (from : ℕ) (sites : List Site) → length (gaps from sites) ≡ 5 * length sites

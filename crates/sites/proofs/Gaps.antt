@@ -12,28 +12,37 @@ here : (xs : List Site) (i : ℕ) (d : Site) → i < length xs → drop i xs ≡
 here xs i d lt = drop_more xs i d lt
 
 pub one_gap : (out : List ℕ) (from : ℕ) (xs : List Site) (i : ℕ) (d : Site) → i < length xs
-    → out ++ gaps from (drop i xs) ≡ (out ++ gap from (get_or xs i d)) ++ gaps ((get_or xs i d).at + (get_or xs i d).total) (drop (i + 1) xs)
+    → out ++ gaps from (drop i xs) ≡ (out ++ gap from (get_or xs i d))
+    ++ gaps ((get_or xs i d).at + (get_or xs i d).total) (drop (i + 1) xs)
 unfolding gaps
 one_gap out from xs i d lt =
     let s = get_or xs i d in
-    ap (λ (v : List Site). out ++ gaps from v) (here xs i d lt) ∙ sym (append_assoc out (gap from s) (gaps (s.at + s.total) (drop (i + 1) xs)))
+    ap (λ (v : List Site). out ++ gaps from v) (here xs i d lt)
+    ∙ sym (append_assoc out (gap from s) (gaps (s.at + s.total) (drop (i + 1) xs)))
 
 pub no_more_gaps : (out : List ℕ) (from : ℕ) (xs : List Site) (i : ℕ) → length xs ≤ i → out ++ gaps from (drop i xs) ≡ out
 unfolding gaps
 no_more_gaps out from xs i le = ap (λ (v : List Site). out ++ gaps from v) (drop_all i xs le) ∙ append-nil out
 
-pub gapped_here : (from : ℕ) (xs : List Site) (i : ℕ) (d : Site) → i < length xs → AreGapped from (drop i xs) → AreGapped from (get_or xs i d ∷ drop (i + 1) xs)
+pub gapped_here : (from : ℕ) (xs : List Site) (i : ℕ) (d : Site) → i < length xs → AreGapped from (drop i xs)
+    → AreGapped from (get_or xs i d ∷ drop (i + 1) xs)
 gapped_here from xs i d lt are = subst (AreGapped from) (here xs i d lt) are
 
-test_here : (from : ℕ) (xs : List Site) (i : ℕ) (d : Site) → i < length xs → are_gapped from (drop i xs) ≡ (is_gapped from (get_or xs i d) && are_gapped ((get_or xs i d).at + (get_or xs i d).total) (drop (i + 1) xs))
+test_here : (from : ℕ) (xs : List Site) (i : ℕ) (d : Site) → i < length xs
+    → are_gapped from (drop i xs)
+    ≡ (is_gapped from (get_or xs i d) && are_gapped ((get_or xs i d).at + (get_or xs i d).total) (drop (i + 1) xs))
 unfolding are_gapped
 test_here from xs i d lt = ap (are_gapped from) (here xs i d lt)
 
-pub test_not : (from : ℕ) (xs : List Site) (i : ℕ) (d : Site) → i < length xs → is_gapped from (get_or xs i d) ≡ false → are_gapped from (drop i xs) ≡ false
-test_not from xs i d lt fails = test_here from xs i d lt ∙ ap (λ (b : Bool). b && are_gapped ((get_or xs i d).at + (get_or xs i d).total) (drop (i + 1) xs)) fails
+pub test_not : (from : ℕ) (xs : List Site) (i : ℕ) (d : Site) → i < length xs → is_gapped from (get_or xs i d) ≡ false
+    → are_gapped from (drop i xs) ≡ false
+test_not from xs i d lt fails =
+    test_here from xs i d lt ∙ ap (λ (b : Bool). b && are_gapped ((get_or xs i d).at + (get_or xs i d).total) (drop (i + 1) xs)) fails
 
-pub test_more : (from : ℕ) (xs : List Site) (i : ℕ) (d : Site) → i < length xs → is_gapped from (get_or xs i d) ≡ true → are_gapped from (drop i xs) ≡ are_gapped ((get_or xs i d).at + (get_or xs i d).total) (drop (i + 1) xs)
-test_more from xs i d lt holds = test_here from xs i d lt ∙ ap (λ (b : Bool). b && are_gapped ((get_or xs i d).at + (get_or xs i d).total) (drop (i + 1) xs)) holds
+pub test_more : (from : ℕ) (xs : List Site) (i : ℕ) (d : Site) → i < length xs → is_gapped from (get_or xs i d) ≡ true
+    → are_gapped from (drop i xs) ≡ are_gapped ((get_or xs i d).at + (get_or xs i d).total) (drop (i + 1) xs)
+test_more from xs i d lt holds =
+    test_here from xs i d lt ∙ ap (λ (b : Bool). b && are_gapped ((get_or xs i d).at + (get_or xs i d).total) (drop (i + 1) xs)) holds
 
 pub test_end : (from : ℕ) (xs : List Site) (i : ℕ) → length xs ≤ i → are_gapped from (drop i xs) ≡ true
 unfolding are_gapped
@@ -73,10 +82,17 @@ pub gapped_by : (from : ℕ) (sites : List Site) → are_gapped from sites ≡ t
 unfolding are_gapped
 gapped_by from [] h = tt
 gapped_by from (s ∷ sites) h =
-    let is = by_test from s (and_parts (is_gapped from s) (are_gapped (s.at + s.total) sites) h).0 in
-    (is.rises, is.near, is.some, is.most, is.total, gapped_by (s.at + s.total) sites (and_parts (is_gapped from s) (are_gapped (s.at + s.total) sites) h).1)
+    let is = by_test from s (and_parts (is_gapped from s) (are_gapped (s.at + s.total) sites) h).0 in (
+      is.rises,
+      is.near,
+      is.some,
+      is.most,
+      is.total,
+      gapped_by (s.at + s.total) sites (and_parts (is_gapped from s) (are_gapped (s.at + s.total) sites) h).1,
+    )
 
-tested : (from : ℕ) (s : Site) → from ≤ s.at → s.at < from + 2 ^ 24 → 1 ≤ s.len → s.len ≤ 11 → s.total ≡ max 5 s.len → is_gapped from s ≡ true
+tested : (from : ℕ) (s : Site) → from ≤ s.at → s.at < from + 2 ^ 24 → 1 ≤ s.len → s.len ≤ 11 → s.total ≡ max 5 s.len
+    → is_gapped from s ≡ true
 tested from s rises near some most total =
     let a : ltb s.at from ≡ false = le-ltb _ _ rises in
     let b : ltb (s.at - from) 16777216 ≡ true = lt-ltb _ _ (omega arith) in
@@ -88,4 +104,5 @@ tested from s rises near some most total =
 pub gapped_test : (from : ℕ) (sites : List Site) → AreGapped from sites → are_gapped from sites ≡ true
 unfolding are_gapped
 gapped_test from [] are = refl
-gapped_test from (s ∷ sites) (rises, near, some, most, total, are) = rw (tested from s rises near some most total, gapped_test (s.at + s.total) sites are) refl
+gapped_test from (s ∷ sites) (rises, near, some, most, total, are) =
+    rw (tested from s rises near some most total, gapped_test (s.at + s.total) sites are) refl

@@ -50,18 +50,23 @@ kind_numbered-number JumpTo = refl
 kind_numbered-number CallTo = refl
 
 numbered : (n : ℕ) → eqb n 0 ≡ false → n < 24 → number (get_or kinds (n - 1) Cli) ≡ n
-numbered n positive lt = split (or_cases (eqb n 0) (eqb (number (get_or kinds (n - 1) Cli)) n) (agree_below_at (λ (k : ℕ). eqb k 0 || eqb (number (get_or kinds (k - 1) Cli)) k) (λ (k : ℕ). true) 24 n refl lt)) where
-  split : (eqb n 0 ≡ true) ⊎ (eqb (number (get_or kinds (n - 1) Cli)) n ≡ true) → number (get_or kinds (n - 1) Cli) ≡ n
-  split (inl e) = absurd (both_ways _ positive e)
-  split (inr e) = eqb-true _ _ e
+numbered n positive lt =
+    split (or_cases (eqb n 0) (eqb (number (get_or kinds (n - 1) Cli)) n)
+    (agree_below_at (λ (k : ℕ). eqb k 0 || eqb (number (get_or kinds (k - 1) Cli)) k) (λ (k : ℕ). true) 24 n refl lt)) where
+      split : (eqb n 0 ≡ true) ⊎ (eqb (number (get_or kinds (n - 1) Cli)) n ≡ true) → number (get_or kinds (n - 1) Cli) ≡ n
+      split (inl e) = absurd (both_ways _ positive e)
+      split (inr e) = eqb-true _ _ e
 
 pub number-kind : (n : ℕ) → is_none (kind_numbered n) ≡ false → number (unwrap_or (kind_numbered n) Cli) ≡ n
 number-kind n some = split (cases_Bool (eqb n 0 || ltb 23 n)) where
   split : ((eqb n 0 || ltb 23 n) ≡ true) ⊎ ((eqb n 0 || ltb 23 n) ≡ false) → number (unwrap_or (kind_numbered n) Cli) ≡ n
-  split (inl e) = absurd (both_ways (is_none (kind_numbered n)) some (ap is_none (cond-true (eqb n 0 || ltb 23 n) None (Some (get_or kinds (n - 1) Cli)) e)))
+  split (inl e) =
+      absurd (both_ways (is_none (kind_numbered n)) some
+      (ap is_none (cond-true (eqb n 0 || ltb 23 n) None (Some (get_or kinds (n - 1) Cli)) e)))
   split (inr e) =
       let parts = or_parts (eqb n 0) (ltb 23 n) e in
-      ap (λ (o : Option SiteKind). number (unwrap_or o Cli)) (cond-false (eqb n 0 || ltb 23 n) None (Some (get_or kinds (n - 1) Cli)) e) ∙ numbered n parts.0 (omega (arith, ltb-false 23 n parts.1))
+      ap (λ (o : Option SiteKind). number (unwrap_or o Cli)) (cond-false (eqb n 0 || ltb 23 n) None (Some (get_or kinds (n - 1) Cli)) e)
+      ∙ numbered n parts.0 (omega (arith, ltb-false 23 n parts.1))
 
 -- ---- what is spelled is read so
 
@@ -93,7 +98,8 @@ stands front rest a s e lt = record {
   last = byte-behind front (site s ++ rest) a 7 e;
 }
 
-not_bad_there : (bytes : List ℕ) (least a : ℕ) (s : Site) → SiteAt bytes a s → least ≤ s.at → s.total ≡ max 5 s.len → site_fault bytes least a ≡ None
+not_bad_there : (bytes : List ℕ) (least a : ℕ) (s : Site) → SiteAt bytes a s → least ≤ s.at → s.total ≡ max 5 s.len
+    → site_fault bytes least a ≡ None
 unfolding site_fault
 not_bad_there bytes least a s is le total =
     let room = is.room in
@@ -104,17 +110,20 @@ not_bad_there bytes least a s is le total =
     let r7 : ltb (a + 7) (length bytes) ≡ true = lt-ltb _ _ (omega arith) in
     let l8 : ltb (length bytes) (a + 8) ≡ false = le-ltb _ _ room in
     let same : eqb s.total (max 5 s.len) ≡ true = eq-eqb _ _ total in
-    let is_kind : is_none (kind_numbered (byte bytes (a + 4))) ≡ false = ap (λ (n : ℕ). is_none (kind_numbered n)) is.kind ∙ ap is_none (kind_numbered-number s.kind) in
+    let is_kind : is_none (kind_numbered (byte bytes (a + 4))) ≡ false =
+    ap (λ (n : ℕ). is_none (kind_numbered n)) is.kind ∙ ap is_none (kind_numbered-number s.kind) in
     rw (is.at, l4, rises, r4, is_kind, r6, is.total, is.len, same, r7, is.last, l8) refl
 
 read_there : (bytes : List ℕ) (a : ℕ) (s : Site) → SiteAt bytes a s → site_at bytes a ≡ s
 unfolding site_at
 read_there bytes a s is =
-    let k : unwrap_or (kind_numbered (byte bytes (a + 4))) Cli ≡ s.kind = ap (λ (n : ℕ). unwrap_or (kind_numbered n) Cli) is.kind ∙ ap (λ (o : Option SiteKind). unwrap_or o Cli) (kind_numbered-number s.kind) in
+    let k : unwrap_or (kind_numbered (byte bytes (a + 4))) Cli ≡ s.kind = ap (λ (n : ℕ). unwrap_or (kind_numbered n) Cli) is.kind
+    ∙ ap (λ (o : Option SiteKind). unwrap_or o Cli) (kind_numbered-number s.kind) in
     rw (is.at, k, is.len, is.total) refl
 
 sites_read : (sites : List Site) (front : List ℕ) (least a : ℕ) → length front ≡ a → AreInForm least sites
-    → (sites_fault (front ++ flat_map site sites) least (length sites) a ≡ None) × (sites_at (front ++ flat_map site sites) (length sites) a ≡ sites)
+    → (sites_fault (front ++ flat_map site sites) least (length sites) a ≡ None)
+    × (sites_at (front ++ flat_map site sites) (length sites) a ≡ sites)
 unfolding sites_fault sites_at
 sites_read [] front least a e are = (rw (le-ltb a (length (front ++ [])) (omega (arith, length-append front []))) refl, refl)
 sites_read (s ∷ sites) front least a e are =
@@ -122,10 +131,13 @@ sites_read (s ∷ sites) front least a e are =
     let is = stands front (flat_map site sites) a s e are.1 in
     let regrouped : (front ++ site s) ++ flat_map site sites ≡ bytes = append_assoc front (site s) (flat_map site sites) in
     let rest = sites_read sites (front ++ site s) (s.at + 1) (a + 8) (omega (arith, length-append front (site s))) are.4 in
-    let rest = subst (λ (x : List ℕ). (sites_fault x (s.at + 1) (length sites) (a + 8) ≡ None) × (sites_at x (length sites) (a + 8) ≡ sites)) regrouped rest in
+    let rest =
+    subst (λ (x : List ℕ). (sites_fault x (s.at + 1) (length sites) (a + 8) ≡ None) × (sites_at x (length sites) (a + 8) ≡ sites)) regrouped
+    rest in
     (rw (not_bad_there bytes least a s is are.0 are.3, is.at) (rest.0), rw (read_there bytes a s is) (ap (λ (r : List Site). s ∷ r) rest.1))
 
-pub head_good : (bytes : List ℕ) (v : ℕ) → 8 ≤ length bytes → byte bytes 0 ≡ 80 → byte bytes 1 ≡ 86 → byte bytes 2 ≡ 83 → byte bytes 3 ≡ v → head_fault bytes v ≡ None
+pub head_good : (bytes : List ℕ) (v : ℕ) → 8 ≤ length bytes → byte bytes 0 ≡ 80 → byte bytes 1 ≡ 86 → byte bytes 2 ≡ 83 → byte bytes 3 ≡ v
+    → head_fault bytes v ≡ None
 unfolding head_fault
 head_good bytes v room b0 b1 b2 b3 =
     let r0 : ltb 0 (length bytes) ≡ true = lt-ltb _ _ (omega arith) in
@@ -144,16 +156,20 @@ unfolding placed byte word32 part placed_in
 placed_read sites are lt =
     let front : List ℕ = 80 ∷ 86 ∷ 83 ∷ 49 ∷ to_le_bytes w32 (length sites) in
     let count : word32 (placed sites) 4 ≡ length sites = from_le_bytes-to_le_bytes_4 (length sites) lt in
-    let head : head_fault (placed sites) 49 ≡ None = head_good (placed sites) 49 (omega (arith, length-append front (flat_map site sites))) refl refl refl refl in
+    let head : head_fault (placed sites) 49 ≡ None =
+    head_good (placed sites) 49 (omega (arith, length-append front (flat_map site sites))) refl refl refl refl in
     let rest = sites_read sites front 0 8 refl are in
-    let none : option_or (head_fault (placed sites) 49) (sites_fault (placed sites) 0 (word32 (placed sites) 4) 8) ≡ None = rw (head, count) rest.0 in
+    let none : option_or (head_fault (placed sites) 49) (sites_fault (placed sites) 0 (word32 (placed sites) 4) 8) ≡ None =
+    rw (head, count) rest.0 in
     let all : sites_at (placed sites) (word32 (placed sites) 4) 8 ≡ sites = rw count rest.1 in
-    unless_none (option_or (head_fault (placed sites) 49) (sites_fault (placed sites) 0 (word32 (placed sites) 4) 8)) (in_first (sites_at (placed sites) (word32 (placed sites) 4) 8)) none ∙ ap (λ (v : List Site). Ok (in_first v)) all
+    unless_none (option_or (head_fault (placed sites) 49) (sites_fault (placed sites) 0 (word32 (placed sites) 4) 8))
+    (in_first (sites_at (placed sites) (word32 (placed sites) 4) 8)) none ∙ ap (λ (v : List Site). Ok (in_first v)) all
 
 -- ---- what is read is spelled so
 
 pub same_byte : (bytes : List ℕ) (at v : ℕ) → at < length bytes → differs bytes at v ≡ false → byte bytes at ≡ v
-same_byte bytes at v lt e = eqb-true _ _ (not-false _ (second_false (ltb at (length bytes)) (not (eqb (byte bytes at) v)) (lt-ltb _ _ lt) e))
+same_byte bytes at v lt e =
+    eqb-true _ _ (not-false _ (second_false (ltb at (length bytes)) (not (eqb (byte bytes at) v)) (lt-ltb _ _ lt) e))
 
 record WasSite (bytes : List ℕ) (least a : ℕ) : Type 0 where
   room : a + 8 ≤ length bytes
@@ -178,8 +194,11 @@ was_site bytes least a e =
     let here : not (ltb (length bytes) (a + 4)) ≡ true = ap not (le-ltb (length bytes) (a + 4) (omega arith)) in
     record {
       room = room;
-      rises = ltb-false _ _ (second_false (not (ltb (length bytes) (a + 4))) (ltb (word32 bytes a) least) here (then_none (falls bytes least a) a n0.0));
-      kind = second_false (ltb (a + 4) (length bytes)) (is_none (kind_numbered (byte bytes (a + 4)))) (lt-ltb _ _ (omega arith)) (then_none (has_no_kind bytes (a + 4)) (a + 4) n1.0);
+      rises =
+          ltb-false _ _ (second_false (not (ltb (length bytes) (a + 4))) (ltb (word32 bytes a) least) here
+          (then_none (falls bytes least a) a n0.0));
+      kind = second_false (ltb (a + 4) (length bytes)) (is_none (kind_numbered (byte bytes (a + 4)))) (lt-ltb _ _ (omega arith))
+          (then_none (has_no_kind bytes (a + 4)) (a + 4) n1.0);
       total = same_byte bytes (a + 6) (max 5 (byte bytes (a + 5))) (omega arith) (then_none (has_wrong_total bytes a) (a + 6) n2.0);
       last = same_byte bytes (a + 7) 0 (omega arith) (then_none (differs bytes (a + 7) 0) (a + 7) n3.0);
     }
@@ -192,16 +211,24 @@ four (a ∷ b ∷ c ∷ []) e = absurd (omega arith)
 four (a ∷ b ∷ c ∷ d ∷ []) e = refl
 four (a ∷ b ∷ c ∷ d ∷ x ∷ xs) e = absurd (omega arith)
 
-pub part-four : (bytes : List ℕ) (a : ℕ) → a + 4 ≤ length bytes → part bytes a 4 ≡ byte bytes a ∷ byte bytes (a + 1) ∷ byte bytes (a + 2) ∷ byte bytes (a + 3) ∷ []
+pub part-four : (bytes : List ℕ) (a : ℕ) → a + 4 ≤ length bytes → part bytes a 4 ≡ byte bytes a ∷ byte bytes (a + 1) ∷ byte bytes
+    (a + 2) ∷ byte bytes (a + 3) ∷ []
 unfolding byte
 part-four bytes a room =
     let zero_more : a + 0 ≡ a = omega arith in
-    let b0 : get_or (part bytes a 4) 0 0 ≡ get_or bytes a 0 = get_or-part bytes a 4 0 (omega arith) ∙ ap (λ (k : ℕ). get_or bytes k 0) zero_more in
-    four (part bytes a 4) (length-part bytes a 4 room) ∙ rw (b0, get_or-part bytes a 4 1 (omega arith), get_or-part bytes a 4 2 (omega arith), get_or-part bytes a 4 3 (omega arith)) refl
+    let b0 : get_or (part bytes a 4) 0 0 ≡ get_or bytes a 0 =
+    get_or-part bytes a 4 0 (omega arith) ∙ ap (λ (k : ℕ). get_or bytes k 0) zero_more in
+    four (part bytes a 4) (length-part bytes a 4 room) ∙ rw (
+      b0,
+      get_or-part bytes a 4 1 (omega arith),
+      get_or-part bytes a 4 2 (omega arith),
+      get_or-part bytes a 4 3 (omega arith),
+    ) refl
 
 pub part-word : (bytes : List ℕ) (a : ℕ) → AreBytes bytes → a + 4 ≤ length bytes → part bytes a 4 ≡ to_le_bytes w32 (word32 bytes a)
 unfolding word32
-part-word bytes a fits room = sym (le_bytes_4 (part bytes a 4) (word32 bytes a) (length-part bytes a 4 room) (bytes-part bytes a 4 fits) refl)
+part-word bytes a fits room =
+    sym (le_bytes_4 (part bytes a 4) (word32 bytes a) (length-part bytes a 4 room) (bytes-part bytes a 4 fits) refl)
 
 site-part : (bytes : List ℕ) (least a : ℕ) → AreBytes bytes → WasSite bytes least a → part bytes a 8 ≡ site (site_at bytes a)
 unfolding site_at
@@ -210,15 +237,20 @@ site-part bytes least a fits was =
     let e5 : a + 4 + 1 ≡ a + 5 = omega arith in
     let e6 : a + 4 + 2 ≡ a + 6 = omega arith in
     let e7 : a + 4 + 3 ≡ a + 7 = omega arith in
-    let tail : part bytes (a + 4) 4 ≡ number (unwrap_or (kind_numbered (byte bytes (a + 4))) Cli) ∷ byte bytes (a + 5) ∷ byte bytes (a + 6) ∷ 0 ∷ [] =
-    part-four bytes (a + 4) (omega arith) ∙ rw (e5, e6, e7, was.last) (ap (λ (n : ℕ). n ∷ byte bytes (a + 5) ∷ byte bytes (a + 6) ∷ 0 ∷ []) (sym (number-kind (byte bytes (a + 4)) was.kind))) in
-    sym (part-append bytes a 4 4) ∙ ap (λ (x : List ℕ). x ++ part bytes (a + 4) 4) (part-word bytes a fits (omega arith)) ∙ ap (λ (x : List ℕ). to_le_bytes w32 (word32 bytes a) ++ x) tail
+    let tail : part bytes (a + 4) 4 ≡ number (unwrap_or (kind_numbered (byte bytes (a + 4))) Cli) ∷ byte bytes (a + 5) ∷ byte
+    bytes (a + 6) ∷ 0 ∷ [] =
+    part-four bytes (a + 4) (omega arith)
+    ∙ rw (e5, e6, e7, was.last)
+    (ap (λ (n : ℕ). n ∷ byte bytes (a + 5) ∷ byte bytes (a + 6) ∷ 0 ∷ []) (sym (number-kind (byte bytes (a + 4)) was.kind))) in
+    sym (part-append bytes a 4 4) ∙ ap (λ (x : List ℕ). x ++ part bytes (a + 4) 4) (part-word bytes a fits (omega arith))
+    ∙ ap (λ (x : List ℕ). to_le_bytes w32 (word32 bytes a) ++ x) tail
 
 pub drop-eight : (bytes : List ℕ) (a : ℕ) → drop a bytes ≡ part bytes a 8 ++ drop (a + 8) bytes
 unfolding part
 drop-eight bytes a = sym (take-append-drop 8 (drop a bytes)) ∙ ap (λ (x : List ℕ). take 8 (drop a bytes) ++ x) (drop-drop 8 a bytes)
 
-at_least : (bytes : List ℕ) (least a : ℕ) → AreBytes bytes → WasSite bytes least a → (rest : List Site) → AreInForm (word32 bytes a + 1) rest → AreInForm least (site_at bytes a ∷ rest)
+at_least : (bytes : List ℕ) (least a : ℕ) → AreBytes bytes → WasSite bytes least a → (rest : List Site)
+    → AreInForm (word32 bytes a + 1) rest → AreInForm least (site_at bytes a ∷ rest)
 unfolding site_at byte
 at_least bytes least a fits was rest are = (was.rises, word32_lt bytes a fits, fits (a + 5), was.total, are)
 
@@ -229,7 +261,8 @@ record AreSpelled (bytes : List ℕ) (least n a : ℕ) : Type 0 where
 
 sites_spelled : (n : ℕ) (bytes : List ℕ) (least a : ℕ) → AreBytes bytes → sites_fault bytes least n a ≡ None → AreSpelled bytes least n a
 unfolding sites_fault sites_at
-sites_spelled zero bytes least a fits e = record { rest = drop_all a bytes (ltb-false _ _ (then_none (ltb a (length bytes)) a e)); are = tt; count = refl }
+sites_spelled zero bytes least a fits e =
+    record { rest = drop_all a bytes (ltb-false _ _ (then_none (ltb a (length bytes)) a e)); are = tt; count = refl }
 sites_spelled (suc n) bytes least a fits e =
     let both = else_none (site_fault bytes least a) (sites_fault bytes (word32 bytes a + 1) n (a + 8)) e in
     let was = was_site bytes least a both.0 in
@@ -263,7 +296,8 @@ head_was bytes v e =
     let b3 = same_byte bytes 3 v (omega arith) (then_none (differs bytes 3 v) 3 n3.0) in
     (room, part-four bytes 0 (omega arith) ∙ rw (b0, b1, b2, b3) refl)
 
-pub placed_was : (bytes : List ℕ) (sites : SitesParts) → AreBytes bytes → placed_in bytes ≡ Ok sites → (bytes ≡ placed sites.list) × AreInForm 0 sites.list × (sites.format ≡ 1)
+pub placed_was : (bytes : List ℕ) (sites : SitesParts) → AreBytes bytes → placed_in bytes ≡ Ok sites → (bytes ≡ placed sites.list)
+    × AreInForm 0 sites.list × (sites.format ≡ 1)
 unfolding placed_in placed
 placed_was bytes sites fits e =
     let n = word32 bytes 4 in
@@ -272,9 +306,14 @@ placed_was bytes sites fits e =
     let head = head_was bytes 49 both.0 in
     let room : 8 ≤ length bytes = head.0 in
     let all = sites_spelled n bytes 0 8 fits both.1 in
-    let eight : part bytes 0 8 ≡ (80 ∷ 86 ∷ 83 ∷ 49 ∷ []) ++ to_le_bytes w32 n = sym (part-append bytes 0 4 4) ∙ ap (λ (x : List ℕ). x ++ part bytes 4 4) head.1 ∙ ap (λ (x : List ℕ). (80 ∷ 86 ∷ 83 ∷ 49 ∷ []) ++ x) (part-word bytes 4 fits (omega arith)) in
-    let whole : bytes ≡ ((80 ∷ 86 ∷ 83 ∷ 49 ∷ []) ++ to_le_bytes w32 n) ++ flat_map site (sites_at bytes n 8) = drop-eight bytes 0 ∙ rw (eight, all.rest) refl in
-    let counted : bytes ≡ placed (sites_at bytes n 8) = subst (λ (k : ℕ). bytes ≡ ((80 ∷ 86 ∷ 83 ∷ 49 ∷ []) ++ to_le_bytes w32 k) ++ flat_map site (sites_at bytes n 8)) (sym all.count) whole in
+    let eight : part bytes 0 8 ≡ (80 ∷ 86 ∷ 83 ∷ 49 ∷ []) ++ to_le_bytes w32 n = sym (part-append bytes 0 4 4)
+    ∙ ap (λ (x : List ℕ). x ++ part bytes 4 4) head.1 ∙ ap (λ (x : List ℕ). (80 ∷ 86 ∷ 83 ∷ 49 ∷ []) ++ x)
+    (part-word bytes 4 fits (omega arith)) in
+    let whole : bytes ≡ ((80 ∷ 86 ∷ 83 ∷ 49 ∷ []) ++ to_le_bytes w32 n) ++ flat_map site (sites_at bytes n 8) =
+    drop-eight bytes 0 ∙ rw (eight, all.rest) refl in
+    let counted : bytes ≡ placed (sites_at bytes n 8) =
+    subst (λ (k : ℕ). bytes ≡ ((80 ∷ 86 ∷ 83 ∷ 49 ∷ []) ++ to_le_bytes w32 k) ++ flat_map site (sites_at bytes n 8))
+    (sym all.count) whole in
     subst (λ (v : SitesParts). (bytes ≡ placed v.list) × AreInForm 0 v.list × (v.format ≡ 1)) ok.1 (counted, all.are, refl)
 
 pub length-sites : (sites : List Site) → length (flat_map site sites) ≡ 8 * length sites

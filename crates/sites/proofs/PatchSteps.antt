@@ -15,7 +15,8 @@ patch_bytes-more n le =
     let up : n - 1 + 1 ≡ n + 1 - 1 = omega arith in
     ap (λ (x : List ℕ). 233 ∷ x) (replicate_more (n - 1) 244 ∙ ap (λ (k : ℕ). replicate k 244) up)
 
-pub one_byte : (m : List ℕ) (at n : ℕ) → 1 ≤ n → at + n + 1 ≤ length m → with_byte (with_part m at (patch_bytes n)) (at + n) 244 ≡ with_part m at (patch_bytes (n + 1))
+pub one_byte : (m : List ℕ) (at n : ℕ) → 1 ≤ n → at + n + 1 ≤ length m → with_byte (with_part m at (patch_bytes n)) (at + n) 244 ≡ with_part
+    m at (patch_bytes (n + 1))
 unfolding with_byte
 one_byte m at n le room =
     let len = length-patch_bytes n le in
@@ -24,12 +25,14 @@ one_byte m at n le room =
     ∙ ap (with_part m at) (patch_bytes-more n le)
 
 pub one_site : (m : List ℕ) (text_at : ℕ) (xs sites : List Site) (i : ℕ) (d : Site) → xs ≡ sites → i < length xs
-    → patched m text_at (drop i sites) ≡ patched (with_part m (text_at + (get_or xs i d).at) (patch_bytes (get_or xs i d).total)) text_at (drop (i + 1) sites)
+    → patched m text_at (drop i sites) ≡ patched (with_part m (text_at + (get_or xs i d).at) (patch_bytes (get_or xs i d).total)) text_at
+    (drop (i + 1) sites)
 unfolding patched
 one_site m text_at xs sites i d same lt =
     rw (← same) (ap (patched m text_at) (drop_more xs i d lt))
 
-pub inside_after : (len text_at : ℕ) (xs sites : List Site) (i : ℕ) → xs ≡ sites → i < length xs → AreInside len text_at (drop i sites) → AreInside len text_at (drop (i + 1) sites)
+pub inside_after : (len text_at : ℕ) (xs sites : List Site) (i : ℕ) → xs ≡ sites → i < length xs → AreInside len text_at (drop i sites)
+    → AreInside len text_at (drop (i + 1) sites)
 inside_after len text_at [] sites i same lt all = absurd (omega arith)
 inside_after len text_at (x ∷ xs) sites i same lt all =
     let here : drop i sites ≡ get_or (x ∷ xs) i x ∷ drop (i + 1) sites = rw (← same) (drop_more (x ∷ xs) i x lt) in

@@ -32,7 +32,8 @@ length_on false xs ys n x y = y
 
 pub length-spelling : (s : SitesParts) → length (spelling s) ≤ 8 + 8 * length s.list
 unfolding spelling
-length-spelling s = length_on _ (gapped s.list) (placed s.list) (8 + 8 * length s.list) (omega (arith, length-gapped s.list)) (omega (arith, length-placed s.list))
+length-spelling s = length_on _ (gapped s.list) (placed s.list) (8 + 8 * length s.list) (omega (arith, length-gapped s.list))
+    (omega (arith, length-placed s.list))
 
 -- sites that follow one another are in the form of both formats
 pub forms : (least from : ℕ) (sites : List Site) → least ≤ from → AreInGaps from sites → AreInForm least sites
@@ -44,7 +45,8 @@ pub gaps_of : (from : ℕ) (sites : List Site) → AreInGaps from sites → AreG
 gaps_of from [] h = tt
 gaps_of from (s ∷ sites) (rises, near, some, most, total, end, rest) = (rises, near, some, most, total, gaps_of (s.at + s.total) sites rest)
 
-pub in_gaps : (from end : ℕ) (sites : List Site) → AreGapped from sites → All (λ (s : Site). s.at + s.total ≤ end) sites → end < 2 ^ 32 → AreInGaps from sites
+pub in_gaps : (from end : ℕ) (sites : List Site) → AreGapped from sites → All (λ (s : Site). s.at + s.total ≤ end) sites → end < 2 ^ 32
+    → AreInGaps from sites
 in_gaps from end [] h below small = tt
 in_gaps from end (s ∷ sites) (rises, near, some, most, total, rest) below small =
     let here : s.at + s.total ≤ end = below 0 s (omega arith) in
@@ -55,6 +57,7 @@ pub rises : (s : SitesParts) → IsInForm s → AreInForm 0 s.list
 rises s (inl (is, are)) = are
 rises s (inr (is, are)) = forms 0 0 s.list (omega arith) are
 
-pub if_rising : (bytes : List ℕ) (r : Result SitesParts SitesFault) → IfOk r (λ s. (bytes ≡ spelling s) × IsInForm s) → IfOk r (λ s. AreInForm 0 s.list)
+pub if_rising : (bytes : List ℕ) (r : Result SitesParts SitesFault) → IfOk r (λ s. (bytes ≡ spelling s) × IsInForm s)
+    → IfOk r (λ s. AreInForm 0 s.list)
 if_rising bytes (Ok s) h = rises s h.1
 if_rising bytes (Err e) h = tt

@@ -17,12 +17,14 @@ AreInForm least (s ∷ sites) = (least ≤ s.at) × (s.at < 2 ^ 32) × (s.len < 
 -- total is the larger of 5 and the length.
 abbrev pub AreGapped : ℕ → List Site → Type 0
 AreGapped from [] = Unit {0}
-AreGapped from (s ∷ sites) = (from ≤ s.at) × (s.at < from + 2 ^ 24) × (1 ≤ s.len) × (s.len ≤ 11) × (s.total ≡ max 5 s.len) × AreGapped (s.at + s.total) sites
+AreGapped from (s ∷ sites) =
+    (from ≤ s.at) × (s.at < from + 2 ^ 24) × (1 ≤ s.len) × (s.len ≤ 11) × (s.total ≡ max 5 s.len) × AreGapped (s.at + s.total) sites
 
 -- the same, and the ends have four bytes
 abbrev pub AreInGaps : ℕ → List Site → Type 0
 AreInGaps from [] = Unit {0}
-AreInGaps from (s ∷ sites) = (from ≤ s.at) × (s.at < from + 2 ^ 24) × (1 ≤ s.len) × (s.len ≤ 11) × (s.total ≡ max 5 s.len) × (s.at + s.total < 2 ^ 32) × AreInGaps (s.at + s.total) sites
+AreInGaps from (s ∷ sites) = (from ≤ s.at) × (s.at < from + 2 ^ 24) × (1 ≤ s.len) × (s.len ≤ 11) × (s.total ≡ max 5 s.len)
+    × (s.at + s.total < 2 ^ 32) × AreInGaps (s.at + s.total) sites
 
 -- The sites can be written in their format.
 abbrev pub IsWritable : SitesParts → Type 0

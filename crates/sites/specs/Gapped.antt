@@ -47,7 +47,8 @@ gap_sites bytes from zero a = []
 gap_sites bytes from (suc n) a = gap_site bytes from a ∷ gap_sites bytes (end_at bytes from a) n (a + 5)
 
 unfoldable pub gapped_in : List ℕ → Result SitesParts ℕ
-gapped_in bytes = unless (option_or (head_fault bytes 50) (gaps_fault bytes 0 (word32 bytes 4) 8)) (record { list = gap_sites bytes 0 (word32 bytes 4) 8; format = 2 })
+gapped_in bytes = unless (option_or (head_fault bytes 50) (gaps_fault bytes 0 (word32 bytes 4) 8))
+    (record { list = gap_sites bytes 0 (word32 bytes 4) 8; format = 2 })
 
 -- ---- whether sites can be written by their gaps
 

@@ -7,7 +7,8 @@ use Rattle.ia32_types.specs.declared.site.SiteKind.TheVariants.{Cli, Sti, StiHlt
 
 -- the kinds in the order of their numbers, from 1
 abbrev pub kinds : List SiteKind
-kinds = Cli ∷ Sti ∷ StiHlt ∷ Hlt ∷ PushFlags ∷ PopFlags ∷ Iret ∷ ReadControl ∷ WriteControl ∷ LoadGdt ∷ LoadIdt ∷ LoadTask ∷ DropPage ∷ ReadSeg ∷ LoadSeg ∷ PushSeg ∷ PopSeg ∷ FarJump ∷ PortIn ∷ PortOut ∷ Return ∷ JumpTo ∷ CallTo ∷ []
+kinds = Cli ∷ Sti ∷ StiHlt ∷ Hlt ∷ PushFlags ∷ PopFlags ∷ Iret ∷ ReadControl ∷ WriteControl ∷ LoadGdt ∷ LoadIdt ∷ LoadTask ∷ DropPage ∷
+    ReadSeg ∷ LoadSeg ∷ PushSeg ∷ PopSeg ∷ FarJump ∷ PortIn ∷ PortOut ∷ Return ∷ JumpTo ∷ CallTo ∷ []
 
 -- the place of a kind in its declaration, from 1
 abbrev pub number : SiteKind → ℕ

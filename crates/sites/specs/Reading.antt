@@ -50,7 +50,12 @@ sites_fault bytes least zero a = then_some (nat_lt a (length bytes)) a
 sites_fault bytes least (suc n) a = option_or (site_fault bytes least a) (sites_fault bytes (word32 bytes a + 1) n (a + 8))
 
 unfoldable pub site_at : List ℕ → ℕ → Site
-site_at bytes a = record { at = word32 bytes a; kind = unwrap_or (kind_numbered (byte bytes (a + 4))) Cli; len = byte bytes (a + 5); total = byte bytes (a + 6) }
+site_at bytes a = record {
+  at = word32 bytes a;
+  kind = unwrap_or (kind_numbered (byte bytes (a + 4))) Cli;
+  len = byte bytes (a + 5);
+  total = byte bytes (a + 6);
+}
 
 unfoldable pub sites_at : List ℕ → ℕ → ℕ → List Site
 sites_at bytes zero a = []
@@ -62,4 +67,5 @@ unless fault x = option_map_or Err fault (Ok x)
 
 -- format 1
 unfoldable pub placed_in : List ℕ → Result SitesParts ℕ
-placed_in bytes = unless (option_or (head_fault bytes 49) (sites_fault bytes 0 (word32 bytes 4) 8)) (record { list = sites_at bytes (word32 bytes 4) 8; format = 1 })
+placed_in bytes = unless (option_or (head_fault bytes 49) (sites_fault bytes 0 (word32 bytes 4) 8))
+    (record { list = sites_at bytes (word32 bytes 4) 8; format = 1 })

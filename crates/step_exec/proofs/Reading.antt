@@ -40,19 +40,22 @@ some_bytes Byte = omega arith
 some_bytes Word = omega arith
 some_bytes Long = omega arith
 
-unwritten_at : (read : Option Range) (s : Space) (k : ℕ) (b : Bool) → is_in read k ≡ b → IsOpen (record { read = read; write = None }) s k → IsReadable s k 1
+unwritten_at : (read : Option Range) (s : Space) (k : ℕ) (b : Bool) → is_in read k ≡ b → IsOpen (record { read = read; write = None }) s
+    k → IsReadable s k 1
 unwritten_at read s k true e open_at = open_at.in_read e
 unwritten_at read s k false e open_at = open_at.in_write e
 
 readable_without_write : (read : Option Range) (s : Space) (at : ℕ) (size : Size)
     → IsAllAt (IsOpen (record { read = read; write = None }) s) at size → IsReadable s at (size_in_bytes size)
-readable_without_write read s at size all = number_readable s at (size_in_bytes size) (λ k lt. unwritten_at read s (at + k) (is_in read (at + k)) refl (all k lt)) (some_bytes size)
+readable_without_write read s at size all =
+    number_readable s at (size_in_bytes size) (λ k lt. unwritten_at read s (at + k) (is_in read (at + k)) refl (all k lt)) (some_bytes size)
 
 readable_without_read : (write : Option Range) (s : Space) (at : ℕ) (size : Size)
     → IsAllAt (IsOpen (record { read = None; write = write }) s) at size → IsReadable s at (size_in_bytes size)
 readable_without_read write s at size all = number_readable s at (size_in_bytes size) (λ k lt. (all k lt).in_write refl) (some_bytes size)
 
-unwritten_byte : (read : Option Range) (s : Space) (k : ℕ) (b : Bool) → is_in read k ≡ b → byte_of (record { read = read; write = None }) s k ≡ byte_at s k
+unwritten_byte : (read : Option Range) (s : Space) (k : ℕ) (b : Bool) → is_in read k ≡ b
+    → byte_of (record { read = read; write = None }) s k ≡ byte_at s k
 unwritten_byte read s k true e = rw e refl
 unwritten_byte read s k false e = rw e refl
 
@@ -77,13 +80,21 @@ without_read write s size at = whole s size at ∙ number_same _ _ (λ k. refl) 
 
 module _ (ranges : Ranges) (s : Space) (size : Size) (at : ℕ) where
   pub unwritten_number : ranges.write ≡ None → loaded s at size ≡ number_at (byte_of ranges s) size at
-  unwritten_number is = subst (λ (w : Option Range). loaded s at size ≡ number_at (byte_of (record { read = ranges.read; write = w }) s) size at) (sym is) (without_write ranges.read s size at)
+  unwritten_number is =
+      subst (λ (w : Option Range). loaded s at size ≡ number_at (byte_of (record { read = ranges.read; write = w }) s) size at) (sym is)
+      (without_write ranges.read s size at)
 
   pub unread_number : ranges.read ≡ None → loaded s at size ≡ number_at (byte_of ranges s) size at
-  unread_number is = subst (λ (r : Option Range). loaded s at size ≡ number_at (byte_of (record { read = r; write = ranges.write }) s) size at) (sym is) (without_read ranges.write s size at)
+  unread_number is =
+      subst (λ (r : Option Range). loaded s at size ≡ number_at (byte_of (record { read = r; write = ranges.write }) s) size at) (sym is)
+      (without_read ranges.write s size at)
 
   pub unwritten_readable : ranges.write ≡ None → IsAllAt (IsOpen ranges s) at size → IsReadable s at (size_in_bytes size)
-  unwritten_readable is = subst (λ (w : Option Range). IsAllAt (IsOpen (record { read = ranges.read; write = w }) s) at size → IsReadable s at (size_in_bytes size)) (sym is) (readable_without_write ranges.read s at size)
+  unwritten_readable is =
+      subst (λ (w : Option Range). IsAllAt (IsOpen (record { read = ranges.read; write = w }) s) at size → IsReadable s at
+      (size_in_bytes size)) (sym is) (readable_without_write ranges.read s at size)
 
   pub unread_readable : ranges.read ≡ None → IsAllAt (IsOpen ranges s) at size → IsReadable s at (size_in_bytes size)
-  unread_readable is = subst (λ (r : Option Range). IsAllAt (IsOpen (record { read = r; write = ranges.write }) s) at size → IsReadable s at (size_in_bytes size)) (sym is) (readable_without_read ranges.write s at size)
+  unread_readable is =
+      subst (λ (r : Option Range). IsAllAt (IsOpen (record { read = r; write = ranges.write }) s) at size → IsReadable s at
+      (size_in_bytes size)) (sym is) (readable_without_read ranges.write s at size)

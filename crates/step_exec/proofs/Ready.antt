@@ -22,7 +22,8 @@ last_at r write s at m low high = record {
   found = λ byte from to. m.found byte (omega (arith, low, from)) (omega (arith, high, to));
 }
 
-earlier_at : (r : Range) (s : Space) (at : ℕ) → IsMade r s.earlier.start s.earlier.len → r.at ≤ at → at < r.at + r.len → IsReadyEarlier s at Byte
+earlier_at : (r : Range) (s : Space) (at : ℕ) → IsMade r s.earlier.start s.earlier.len → r.at ≤ at → at < r.at + r.len
+    → IsReadyEarlier s at Byte
 earlier_at r s at m low high = record { above = omega (arith, m.start_is, low); below = omega (arith, m.start_is, m.len_is, high) }
 
 low_of : (r : Range) (at : ℕ) → is_in (Some r) at ≡ true → r.at ≤ at
@@ -44,7 +45,8 @@ fits_read : (r : Range) (write : Option Range) (s : Space) → IsReadMade (Some 
 fits_read r None s m = m.fits
 fits_read r (Some w) s m = m.fits
 
-read_open : (read write : Option Range) (s : Space) → IsReadMade read write s → Covers (IsOpen (record { read = read; write = write }) s) read
+read_open : (read write : Option Range) (s : Space) → IsReadMade read write s
+    → Covers (IsOpen (record { read = read; write = write }) s) read
 read_open None write s m = tt
 read_open (Some r) write s m = λ k lt. record {
   space = omega (arith, fits_read r write s m, lt);
@@ -52,7 +54,8 @@ read_open (Some r) write s m = λ k lt. record {
   in_write = λ e. absurd (both_ways (is_in (Some r) (r.at + k)) e (in_range r k lt));
 }
 
-write_open : (read write : Option Range) (s : Space) → IsReadMade read write s → IsLast write true s → Covers (IsOpen (record { read = read; write = write }) s) write
+write_open : (read write : Option Range) (s : Space) → IsReadMade read write s → IsLast write true s
+    → Covers (IsOpen (record { read = read; write = write }) s) write
 write_open read None s m n = tt
 write_open read (Some w) s m n = λ k lt. record {
   space = omega (arith, n.fits, lt);
@@ -61,7 +64,8 @@ write_open read (Some w) s m n = λ k lt. record {
 }
 
 pub made_open : (ranges : Ranges) (s : Space) → AreMade ranges s → IsReadReady (IsOpen ranges s) ranges
-made_open ranges s m = record { read = read_open ranges.read ranges.write s m.read; modified = write_open ranges.read ranges.write s m.read m.write }
+made_open ranges s m =
+    record { read = read_open ranges.read ranges.write s m.read; modified = write_open ranges.read ranges.write s m.read m.write }
 
 writable_in : (write : Option Range) (s : Space) → IsLast write true s → Covers (IsWritableAt s) write
 writable_in None s n = tt

@@ -31,7 +31,8 @@ saved_bare s at Long v = refl
 
 stored_bare : (ws : List Store) (s : Space) → stored_all (bare s) ws ≡ bare (stored_all s ws)
 stored_bare [] s = refl
-stored_bare (w ∷ ws) s = ap (λ (t : Space). stored_all t ws) (saved_bare s w.at w.size w.value) ∙ stored_bare ws (saved s w.at w.size w.value)
+stored_bare (w ∷ ws) s =
+    ap (λ (t : Space). stored_all t ws) (saved_bare s w.at w.size w.value) ∙ stored_bare ws (saved s w.at w.size w.value)
 
 finished_bare : (cpu : Cpu) (s : Space) (o : exec.Outcome) → finished cpu (bare s) o ≡ bared (finished cpu s o)
 finished_bare cpu s (outcomes.Done regs stores) = ap (λ (t : Space). Ok (record cpu { regs = regs }, t)) (stored_bare (list_of stores) s)
@@ -43,7 +44,8 @@ unfolding byte_at place
 bytes_bare read before after = refl
 
 writes_agree : (insn : Insn) (len : ℕ) (cpu : Cpu) (before : Space) (o p : Outcome Refusal (Unit {0})) → IsExtra is_extra o ⊎ (p ≡ bared o)
-    → IsExtra is_extra (after_writes insn len cpu before o) ⊎ (after_writes insn len cpu (bare before) p ≡ bared (after_writes insn len cpu before o))
+    → IsExtra is_extra (after_writes insn len cpu before o)
+    ⊎ (after_writes insn len cpu (bare before) p ≡ bared (after_writes insn len cpu before o))
 writes_agree insn len cpu before (Ok done) p (inl e) = absurd e
 writes_agree insn len cpu before (Ok done) p (inr e) =
     let read = (ranges_of insn cpu.regs).read in
@@ -58,7 +60,8 @@ reads_agree : (insn : Insn) (len : ℕ) (cpu : Cpu) (o p : Outcome Refusal (Unit
 reads_agree insn len cpu (Ok done) p (inl e) = absurd e
 reads_agree insn len cpu (Ok done) p (inr e) =
     let write = (ranges_of insn cpu.regs).write in
-    elim (writes_agree insn len cpu done.1 (reached cpu true write done.1) (reached cpu true write (bare done.1)) ((range_agrees cpu true write).at_each done.1)) [
+    elim (writes_agree insn len cpu done.1 (reached cpu true write done.1) (reached cpu true write (bare done.1))
+    ((range_agrees cpu true write).at_each done.1)) [
       | inl k ↦ inl k
       | inr g ↦ inr (ap (after_reads insn len cpu) e ∙ g)
     ]
@@ -68,7 +71,10 @@ reads_agree insn len cpu (Err refused) p (inr e) = inr (ap (after_reads insn len
 translated_agrees : (insn : Insn) (len : ℕ) (cpu : Cpu) → Agrees is_extra (translated insn len cpu)
 translated_agrees insn len cpu =
     let read = (ranges_of insn cpu.regs).read in
-    record { at_each = λ s. reads_agree insn len cpu (reached cpu false read s) (reached cpu false read (bare s)) ((range_agrees cpu false read).at_each s) }
+    record {
+      at_each = λ s. reads_agree insn len cpu (reached cpu false read s) (reached cpu false read (bare s))
+          ((range_agrees cpu false read).at_each s);
+    }
 
 pub plain_agrees : (insn : Insn) (len : ℕ) (cpu : Cpu) → Agrees is_extra (executed insn len cpu)
 unfolding executed

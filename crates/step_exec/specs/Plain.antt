@@ -51,7 +51,8 @@ finished cpu s (outcomes.Raise vector code) = Err (refusal.Raise vector code, s)
 finished cpu s (outcomes.Stop stop) = Err (refusal.Stop stop, s)
 
 abbrev pub after_writes : Insn → ℕ → Cpu → Space → Outcome Refusal (Unit {0}) → Outcome Refusal Cpu
-after_writes insn len cpu before (Ok done) = finished cpu done.1 (effect insn len cpu.regs (byte_by (ranges_of insn cpu.regs).read before done.1))
+after_writes insn len cpu before (Ok done) =
+    finished cpu done.1 (effect insn len cpu.regs (byte_by (ranges_of insn cpu.regs).read before done.1))
 after_writes insn len cpu before (Err refused) = Err refused
 
 abbrev pub after_reads : Insn → ℕ → Cpu → Outcome Refusal (Unit {0}) → Outcome Refusal Cpu

@@ -40,7 +40,8 @@ abbrev pub seen : Work Refusal Space
 seen s = Ok (s, s)
 
 abbrev pub user_finished : Cpu → exec.Outcome → Work Refusal SysOutcome
-user_finished cpu (outcomes.Done regs stores) s = Ok (record { cpu = record cpu { regs = regs }; effect = effects.Next }, stored_all s (list_of stores))
+user_finished cpu (outcomes.Done regs stores) s =
+    Ok (record { cpu = record cpu { regs = regs }; effect = effects.Next }, stored_all s (list_of stores))
 user_finished cpu (outcomes.Raise vector code) s = Err (refusal.Raise vector code, s)
 user_finished cpu (outcomes.Stop stop) s = Err (refusal.Stop stop, s)
 
@@ -78,4 +79,5 @@ pub record IsUser (cpu : Cpu) : Type 0 where
 -- such an instruction's row is this form
 abbrev pub HasUserForm : Type 0
 HasUserForm =
-    (insn : Insn) (len : ℕ) (cpu : Cpu) (s : Space) → IsUserSite insn.op → OperandsFit insn.op insn.a insn.b → IsShaped insn → IsUser cpu → sys_work insn len cpu s ≡ user_executed insn len cpu s
+    (insn : Insn) (len : ℕ) (cpu : Cpu) (s : Space) → IsUserSite insn.op → OperandsFit insn.op insn.a insn.b → IsShaped insn → IsUser cpu
+    → sys_work insn len cpu s ≡ user_executed insn len cpu s

@@ -10,7 +10,8 @@ by_entry None at k found one = absurd cc
 by_entry (Some entry) at k found one = omega arith
 
 -- the place of an address, by the one of another in its page
-pub next_place : (set : FinMap nat_cmp Entry) (at k : ℕ) → IsSome (get set (at / 4096)) → at % 4096 + k < 4096 → place_by (get set ((at + k) / 4096)) (at + k) ≡ place_by (get set (at / 4096)) at + k
+pub next_place : (set : FinMap nat_cmp Entry) (at k : ℕ) → IsSome (get set (at / 4096)) → at % 4096 + k < 4096
+    → place_by (get set ((at + k) / 4096)) (at + k) ≡ place_by (get set (at / 4096)) at + k
 next_place set at k found one =
     let page : (at + k) / 4096 ≡ at / 4096 = omega arith in
     rw page (by_entry (get set (at / 4096)) at k found one)

@@ -35,10 +35,15 @@ space_at kept ram state =
       tables = state.tables;
       wrote = state.wrote;
       ready = record { start = state.ready.start; len = state.ready.len; write = state.ready.write };
-      earlier = record { start = state.earlier.start; len = state.earlier.len; set = changed (kept ram) (take state.earlier.count state.changes) };
+      earlier = record {
+        start = state.earlier.start;
+        len = state.earlier.len;
+        set = changed (kept ram) (take state.earlier.count state.changes);
+      };
     })
 
-pub record IsSound (kept : List ℕ → FinMap nat_cmp Entry) (floor : ℕ) (stands : List ℕ → Type 0) (ram : List ℕ) (state : StepState) : Type 0 where
+pub record IsSound (kept : List ℕ → FinMap nat_cmp Entry) (floor : ℕ) (stands : List ℕ → Type 0) (ram : List ℕ)
+    (state : StepState) : Type 0 where
   pub frames_in : 4096 * state.control.frames ≤ length ram
   pub below : 4096 * state.control.frames ≤ floor
   pub laid_in : IsLaid state.guard.text.now state.control.frames

@@ -8,7 +8,8 @@ use Rattle.step_text.specs.Stored.{digits_of}
 pub two_pieces : (line a b r1 r2 : List ℕ) → r1 ≡ line ++ a → r2 ≡ r1 ++ b → r2 ≡ line ++ (a ++ b)
 two_pieces line a b r1 r2 p q = q ∙ (ap (λ (l : List ℕ). l ++ b) p ∙ append_assoc line a b)
 
-pub four_pieces : (line a b c d r1 r2 r3 r4 : List ℕ) → r1 ≡ line ++ a → r2 ≡ r1 ++ b → r3 ≡ r2 ++ c → r4 ≡ r3 ++ d → r4 ≡ line ++ (a ++ b ++ c ++ d)
+pub four_pieces : (line a b c d r1 r2 r3 r4 : List ℕ) → r1 ≡ line ++ a → r2 ≡ r1 ++ b → r3 ≡ r2 ++ c → r4 ≡ r3 ++ d → r4 ≡ line
+    ++ (a ++ b ++ c ++ d)
 four_pieces line a b c d r1 r2 r3 r4 p q r s =
     two_pieces line (a ++ b ++ c) d r3 r4 (two_pieces line (a ++ b) c r2 r3 (two_pieces line a b r1 r2 p q) r) s
 

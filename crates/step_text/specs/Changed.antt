@@ -28,10 +28,14 @@ word_change name old new = if old == new then [] else (name_text name ++ hex8 ne
 
 unfoldable pub general_changes : Regs → Regs → List ℕ
 general_changes old new =
-    word_change (codes "eax") (slice_index old.r 0) (slice_index new.r 0) ++ word_change (codes "ecx") (slice_index old.r 1) (slice_index new.r 1)
-    ++ word_change (codes "edx") (slice_index old.r 2) (slice_index new.r 2) ++ word_change (codes "ebx") (slice_index old.r 3) (slice_index new.r 3)
-    ++ word_change (codes "esp") (slice_index old.r 4) (slice_index new.r 4) ++ word_change (codes "ebp") (slice_index old.r 5) (slice_index new.r 5)
-    ++ word_change (codes "esi") (slice_index old.r 6) (slice_index new.r 6) ++ word_change (codes "edi") (slice_index old.r 7) (slice_index new.r 7)
+    word_change (codes "eax") (slice_index old.r 0) (slice_index new.r 0) ++ word_change (codes "ecx") (slice_index old.r 1)
+    (slice_index new.r 1)
+    ++ word_change (codes "edx") (slice_index old.r 2) (slice_index new.r 2) ++ word_change (codes "ebx") (slice_index old.r 3)
+    (slice_index new.r 3)
+    ++ word_change (codes "esp") (slice_index old.r 4) (slice_index new.r 4) ++ word_change (codes "ebp") (slice_index old.r 5)
+    (slice_index new.r 5)
+    ++ word_change (codes "esi") (slice_index old.r 6) (slice_index new.r 6) ++ word_change (codes "edi") (slice_index old.r 7)
+    (slice_index new.r 7)
     ++ word_change (codes "eflags") old.flags.bits new.flags.bits
 
 -- a selector is printed where anything of its register changed, also what is hidden
@@ -71,7 +75,8 @@ unfoldable pub table_change : List ℕ → Table → Table → List ℕ
 table_change name old new = if same_table old new then [] else table_text name new.base new.limit
 
 unfoldable pub table_changes : Cpu → Cpu → List ℕ
-table_changes old new = table_change (codes "gdtr") old.gdt new.gdt ++ table_change (codes "idtr") old.idt new.idt ++ task_change old.task new.task
+table_changes old new =
+    table_change (codes "gdtr") old.gdt new.gdt ++ table_change (codes "idtr") old.idt new.idt ++ task_change old.task new.task
 
 abbrev pub where_so : Bool → List ℕ → List ℕ
 where_so true text = text
@@ -84,4 +89,5 @@ waiting_changes old new =
 
 unfoldable pub processor_changes : Cpu → Cpu → List ℕ
 processor_changes old new =
-    general_changes old.regs new.regs ++ segment_changes old new ++ control_changes old new ++ table_changes old new ++ waiting_changes old new
+    general_changes old.regs new.regs ++ segment_changes old new ++ control_changes old new ++ table_changes old new
+    ++ waiting_changes old new

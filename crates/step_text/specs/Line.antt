@@ -11,7 +11,8 @@ use Rattle.step_text.specs.Stored.{stored_text}
 -- The entries of what a step did, each after two blanks: the exception or the handler, the registers that changed, and the
 -- bytes at an address.
 unfoldable pub entries : Activity → Cpu → Cpu → Option Raised → ℕ → List ℕ → List ℕ
-entries does old new raised at bytes = raised_text raised new ++ interrupt_text does new ++ processor_changes old new ++ stored_text at bytes
+entries does old new raised at bytes =
+    raised_text raised new ++ interrupt_text does new ++ processor_changes old new ++ stored_text at bytes
 
 -- They stand after a bar, of which the first has one blank before it. Where there are none there is no bar.
 abbrev pub after_bar : List ℕ → List ℕ

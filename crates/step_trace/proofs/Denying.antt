@@ -30,7 +30,8 @@ last_pushed xs y =
 abbrev if_none : Bool → ℕ → Option ℕ
 if_none none page = cond none (Some page) None
 
-last_page : (s : Space) (visited : List ℕ) (page : ℕ) (entry : Option Entry) → s.visited ≡ visited ++ page ∷ [] → get s.set page ≡ entry → denied_page s ≡ if_none (is_none entry) page
+last_page : (s : Space) (visited : List ℕ) (page : ℕ) (entry : Option Entry) → s.visited ≡ visited ++ page ∷ [] → get s.set page ≡ entry
+    → denied_page s ≡ if_none (is_none entry) page
 last_page s visited page entry e f =
     ap (λ (l : List ℕ). if_unmapped s.set (slice_get l (length l - 1))) e
     ∙ (ap (if_unmapped s.set) (last_pushed visited page)
@@ -75,12 +76,14 @@ PageTold page at (Stop stop) s = denied_page s ≡ Some page
 abbrev PageAs : ℕ → ℕ → Touch × Space → Type 0
 PageAs page at met = PageTold page at met.0 met.1
 
-told_by : (page at : ℕ) (met : Touch) (entry : Option Entry) (s : Space) → denied_page s ≡ if_none (is_none entry) page → s.mode ≡ Bare → ToldBy at met entry → PageTold page at met s
+told_by : (page at : ℕ) (met : Touch) (entry : Option Entry) (s : Space) → denied_page s ≡ if_none (is_none entry) page → s.mode ≡ Bare
+    → ToldBy at met entry → PageTold page at met s
 told_by page at Ready entry s e m h = (e ∙ ap (λ (b : Bool). if_none b page) h, m)
 told_by page at (Fault code a) entry s e m h = (h.0, e ∙ ap (λ (b : Bool). if_none b page) h.1)
 told_by page at (Stop stop) entry s e m h = e ∙ ap (λ (b : Bool). if_none b page) h
 
-settled_told : (s : Space) (visited : List ℕ) (page at : ℕ) (d : Decision) → s.visited ≡ visited ++ page ∷ [] → s.mode ≡ Bare → Fits at d → PageAs page at (settled s page d)
+settled_told : (s : Space) (visited : List ℕ) (page at : ℕ) (d : Decision) → s.visited ≡ visited ++ page ∷ [] → s.mode ≡ Bare → Fits at d
+    → PageAs page at (settled s page d)
 settled_told s visited page at d v m h =
     let t : Space = (settled s page d).1 in
     told_by page at d.met d.entry t (last_page t visited page d.entry v (get_with_same s.set page d.entry)) m h
@@ -90,24 +93,29 @@ bare_bars true true page frame = refl
 bare_bars true false page frame = refl
 bare_bars false user page frame = refl
 
-allowed_told : (s : Space) (visited : List ℕ) (fetch : Bool) (page at : ℕ) (access : Access) (entry : Entry) (allowed : Bool) → get s.set page ≡ Some entry → s.visited ≡ visited ++ page ∷ [] → s.mode ≡ Bare
+allowed_told : (s : Space) (visited : List ℕ) (fetch : Bool) (page at : ℕ) (access : Access) (entry : Entry) (allowed : Bool)
+    → get s.set page ≡ Some entry → s.visited ≡ visited ++ page ∷ [] → s.mode ≡ Bare
     → PageAs page at (by_entry s fetch page at access (cond allowed (Some entry) None))
 allowed_told s visited fetch page at access entry true e v m =
     let bars = ap (λ (k : Mode). is_barred k fetch access.user page entry.frame) m ∙ bare_bars fetch access.user page entry.frame in
-    subst (λ (b : Bool). PageAs page at (cond b (Stop stops.TextMapped, s) (Ready, s))) (sym bars) (last_page s visited page (Some entry) v e, m)
+    subst (λ (b : Bool). PageAs page at (cond b (Stop stops.TextMapped, s) (Ready, s))) (sym bars)
+    (last_page s visited page (Some entry) v e, m)
 allowed_told s visited fetch page at access entry false e v m =
     settled_told s visited page at (decided (tables_of s) fetch page at access) v m (decided_fits (tables_of s) fetch page at access)
 
-entry_told : (s : Space) (visited : List ℕ) (fetch : Bool) (page at : ℕ) (access : Access) (found : Option Entry) → get s.set page ≡ found → s.visited ≡ visited ++ page ∷ [] → s.mode ≡ Bare
+entry_told : (s : Space) (visited : List ℕ) (fetch : Bool) (page at : ℕ) (access : Access) (found : Option Entry) → get s.set page ≡ found
+    → s.visited ≡ visited ++ page ∷ [] → s.mode ≡ Bare
     → PageAs page at (by_entry s fetch page at access (usable found access s.wp))
 entry_told s visited fetch page at access None e v m =
     settled_told s visited page at (decided (tables_of s) fetch page at access) v m (decided_fits (tables_of s) fetch page at access)
-entry_told s visited fetch page at access (Some entry) e v m = allowed_told s visited fetch page at access entry (allows entry access s.wp) e v m
+entry_told s visited fetch page at access (Some entry) e v m =
+    allowed_told s visited fetch page at access entry (allows entry access s.wp) e v m
 
 page_told : (s : Space) (fetch : Bool) (page at : ℕ) (access : Access) → s.mode ≡ Bare → PageAs page at (page_uses s fetch page at access)
 unfolding page_uses
 page_told s fetch page at access m =
-    entry_told (record s { pages = s.pages + 1; visited = s.visited ++ page ∷ [] }) s.visited fetch page at access (get s.set page) refl refl m
+    entry_told (record s { pages = s.pages + 1; visited = s.visited ++ page ∷ [] }) s.visited fetch page at access
+    (get s.set page) refl refl m
 
 -- ---- a fetch
 
@@ -129,7 +137,8 @@ fetch_told s at len user m =
 abbrev RangeAs : ℕ → ℕ → Touch × Space → Type 0
 RangeAs first last met = ToldInOne first last met.0 met.1
 
-made_told : (first last at len : ℕ) (write : Bool) (met : Touch) (s : Space) → ToldInOne first last met s → RangeAs first last (go_on met s (made_ready at len write))
+made_told : (first last at len : ℕ) (write : Bool) (met : Touch) (s : Space) → ToldInOne first last met s
+    → RangeAs first last (go_on met s (made_ready at len write))
 made_told first last at len write Ready s h = h
 made_told first last at len write (Fault code a) s h = h
 made_told first last at len write (Stop stop) s h = h
@@ -151,7 +160,8 @@ if_second first last access false s h m =
     last_told first last p.0 p.1 (page_told s false last (last * 4096) access m)
 
 first_then : (at len : ℕ) (access : Access) (met : Touch) (s : Space) → PageTold (at / 4096) at met s
-    → RangeAs (at / 4096) ((at + len - 1) / 4096) (go_on met s (λ t. and_then (second_page at len access t) (made_ready at len access.write)))
+    → RangeAs (at / 4096) ((at + len - 1) / 4096)
+    (go_on met s (λ t. and_then (second_page at len access t) (made_ready at len access.write)))
 first_then at len access Ready s h =
     let first = at / 4096 in
     let last = (at + len - 1) / 4096 in
@@ -160,7 +170,8 @@ first_then at len access Ready s h =
 first_then at len access (Fault code a) s h = h.1 ∙ ap (λ (n : ℕ). Some (n / 4096)) (sym h.0)
 first_then at len access (Stop stop) s h = inl h
 
-pages_told : (s : Space) (at len : ℕ) (access : Access) → s.mode ≡ Bare → RangeAs (at / 4096) ((at + len - 1) / 4096) (by_pages at len access s)
+pages_told : (s : Space) (at len : ℕ) (access : Access) → s.mode ≡ Bare
+    → RangeAs (at / 4096) ((at + len - 1) / 4096) (by_pages at len access s)
 pages_told s at len access m =
     let p = page_uses s false (at / 4096) at access in
     first_then at len access p.0 p.1 (page_told s false (at / 4096) at access m)
@@ -176,7 +187,8 @@ range_bare s at len access le = rw (not_past (at + len) le) (pages_told (unready
 range_told : (s : Space) (at len : ℕ) (access : Access) → s.mode ≡ Bare → at + len ≤ 2 ^ 32
     → RangeAs (at / 4096) ((at + len - 1) / 4096) (uses s at len access)
 range_told s at len access m le =
-    subst (λ (k : Mode). RangeAs (at / 4096) ((at + len - 1) / 4096) (uses (record s { mode = k }) at len access)) (sym m) (range_bare s at len access le)
+    subst (λ (k : Mode). RangeAs (at / 4096) ((at + len - 1) / 4096) (uses (record s { mode = k }) at len access)) (sym m)
+    (range_bare s at len access le)
 
 pub denials_tell : DenialsTell
 denials_tell = record { fetch = fetch_told; range = range_told }

@@ -32,8 +32,10 @@ use Rattle.step_trace.proofs.Quiet.{quiet}
 use Rattle.step_trace.proofs.Going.{stopped_traces, bound_traces, from_slice, extended, front_put}
 
 -- lines that were put, and the last line, or a front of it
-ended : (m : Setting) (n from : ℕ) (only : Only) (old : State) (lines : List ℕ) (count : ℕ) (end : End) (a b c : Option (List ℕ)) (before mid now : ℕ) (result : Result Ended RunFault)
-    → Traces m n from only old (lines ++ end_line count end) count end → Appends a b lines → mid ≡ before → EndsAs count end b c mid now result → TracesAs m n from only old a c before now result
+ended : (m : Setting) (n from : ℕ) (only : Only) (old : State) (lines : List ℕ) (count : ℕ) (end : End) (a b c : Option (List ℕ))
+    (before mid now : ℕ) (result : Result Ended RunFault)
+    → Traces m n from only old (lines ++ end_line count end) count end → Appends a b lines → mid ≡ before
+    → EndsAs count end b c mid now result → TracesAs m n from only old a c before now result
 ended m n from only old lines count end a b c before mid now (Ok done) t p same e =
     subst (λ (x : Ended). TracesAs m n from only old a c before now (Ok x)) (sym e.0)
     (lines ++ end_line count end, t, appends_both a b c lines (end_line count end) p e.1, e.2 ∙ same)
@@ -50,22 +52,27 @@ ended m n from only old lines count end a b c before mid now (Err fault.Write) t
 ended m n from only old lines count end a b c before mid now (Err (fault.TooSmall small)) t p same e = absurd e
 ended m n from only old lines count end a b c before mid now (Err fault.Memory) t p same e = absurd e
 
-traces_at : (m : Setting) (n from : ℕ) (only : Only) (old : State) (text text2 : List ℕ) (count count2 : ℕ) (end : End) → text ≡ text2 → count ≡ count2 → Traces m n from only old text count end → Traces m n from only old text2 count2 end
+traces_at : (m : Setting) (n from : ℕ) (only : Only) (old : State) (text text2 : List ℕ) (count count2 : ℕ) (end : End) → text ≡ text2
+    → count ≡ count2 → Traces m n from only old text count end → Traces m n from only old text2 count2 end
 traces_at m n from only old text text2 count count2 end same equal t =
     subst (λ (k : ℕ). Traces m n from only old text2 k end) equal (subst (λ (l : List ℕ). Traces m n from only old l count end) same t)
 
 -- the steps paused, and the last line answers
-pub paused : (m : Setting) (n from : ℕ) (only : Only) (old new : State) (a b c : Option (List ℕ)) (pause : Pause) (before mid now : ℕ) (result : Result Ended RunFault)
-    → PausesWith m n from only old new a b (Ok pause) → mid ≡ before → EndsAs new.step (end_of pause) b c mid now result → TracesAs m n from only old a c before now result
+pub paused : (m : Setting) (n from : ℕ) (only : Only) (old new : State) (a b c : Option (List ℕ)) (pause : Pause) (before mid now : ℕ)
+    (result : Result Ended RunFault)
+    → PausesWith m n from only old new a b (Ok pause) → mid ≡ before → EndsAs new.step (end_of pause) b c mid now result
+    → TracesAs m n from only old a c before now result
 paused m n from only old new a b c pause.Reached before mid now result h same e =
     let lines = lines_by m from only old h.0.sets in
     ended m n from only old lines new.step Bound a b c before mid now result
-    (traces_at m n from only old _ _ new.step new.step Bound (ap (λ (l : List ℕ). l ++ end_line new.step Bound) (append-nil lines)) refl (bound_traces m n from only old new a b h.0 h.1)) h.0.text same e
+    (traces_at m n from only old _ _ new.step new.step Bound (ap (λ (l : List ℕ). l ++ end_line new.step Bound) (append-nil lines)) refl
+    (bound_traces m n from only old new a b h.0 h.1)) h.0.text same e
 paused m n from only old new a b c (pause.Stopped stop) before mid now result h same e =
     let p = h.0 in
     let lines = lines_by m from only old p.before.sets ++ stop_line m from p.last in
     ended m n from only old lines new.step (Stopped stop) a b c before mid now result
-    (traces_at m n from only old _ _ p.last.step new.step (Stopped stop) (ap (λ (k : ℕ). lines ++ end_line k (Stopped stop)) (sym p.count)) (sym p.count)
+    (traces_at m n from only old _ _ p.last.step new.step (Stopped stop)
+    (ap (λ (k : ℕ). lines ++ end_line k (Stopped stop)) (sym p.count)) (sym p.count)
     (stopped_traces m n from only old p.last a p.between stop p.before p.below h.1))
     (appends_both a p.between b _ _ p.before.text p.line) same e
 
@@ -78,7 +85,8 @@ unfolding stop_line
 none_yet m from b lt = rw (not_from from b.step lt) refl
 
 -- a slice that stops before it
-pub stopped_early : (m : Setting) (exact : Bool) (n from bound : ℕ) (only : Only) (old new : State) (a b : Option (List ℕ)) (stop : Stop) → bound ≤ from → bound ≤ n
+pub stopped_early : (m : Setting) (exact : Bool) (n from bound : ℕ) (only : Only) (old new : State) (a b : Option (List ℕ)) (stop : Stop)
+    → bound ≤ from → bound ≤ n
     → SliceAs m exact bound old new a b (Ok (pause.Stopped stop)) → PausesWith m n from only old new a b (Ok (pause.Stopped stop))
 stopped_early m exact n from bound only old new a b stop le within h =
     let lt : h.last.step < from = omega (arith, h.ends.0, le) in (
@@ -101,7 +109,8 @@ begun m exact from bound only old new a b le h =
     (from_slice m exact from only old h.last a b h.reports h.passes (omega (arith, h.ends.0, le)) h.text)
 
 -- a slice whose output failed
-pub cut_early : (m : Setting) (exact : Bool) (n from bound : ℕ) (only : Only) (old new : State) (a b : Option (List ℕ)) (failed : Failed) → bound ≤ from → bound ≤ n
+pub cut_early : (m : Setting) (exact : Bool) (n from bound : ℕ) (only : Only) (old new : State) (a b : Option (List ℕ)) (failed : Failed)
+    → bound ≤ from → bound ≤ n
     → SliceAs m exact bound old new a b (Err failed) → PutFront m n from only old a b
 cut_early m exact n from bound only old new a b failed le within h =
     let last = with_set h.last h.passes.whole in
@@ -110,16 +119,20 @@ cut_early m exact n from bound only old new a b failed le within h =
     (subst (AppendsFront a b) (sym (quiet m from only old last h.passes.sets h.reports h.passes.steps (omega (arith, h.ends, le)))) h.text)
 
 -- the trace from boot
-has_trace : (image : Image) (script : Events) (frames n from : ℕ) (only : Only) (first : State) (text : List ℕ) (count : ℕ) (end : End) → need image ≤ frames → first ≡ boot (bare image script frames)
+has_trace : (image : Image) (script : Events) (frames n from : ℕ) (only : Only) (first : State) (text : List ℕ) (count : ℕ) (end : End)
+    → need image ≤ frames → first ≡ boot (bare image script frames)
     → Traces (bare image script frames) n from only first text count end → HasTrace image script frames n from only text count end
 has_trace image script frames n from only first text count end fits is t =
     record { fits = fits; traces = subst (λ (b : State). Traces (bare image script frames) n from only b text count end) is t }
 
-pub answered : (image : Image) (script : Events) (frames n from : ℕ) (only : Only) (first : State) (a b : Option (List ℕ)) (before now : ℕ) (result : Result Ended RunFault) → need image ≤ frames
-    → first ≡ boot (bare image script frames) → TracesAs (bare image script frames) n from only first a b before now result → TraceAnswers image script frames n from only a b before now result
+pub answered : (image : Image) (script : Events) (frames n from : ℕ) (only : Only) (first : State) (a b : Option (List ℕ)) (before now : ℕ)
+    (result : Result Ended RunFault) → need image ≤ frames
+    → first ≡ boot (bare image script frames) → TracesAs (bare image script frames) n from only first a b before now result
+    → TraceAnswers image script frames n from only a b before now result
 answered image script frames n from only first a b before now (Ok ended) fits is h =
     (h.0, has_trace image script frames n from only first h.0 ended.steps ended.end fits is h.1, h.2, h.3)
 answered image script frames n from only first a b before now (Err fault.Write) fits is h =
-    let p = h.0 in (p.text, p.count, p.end, has_trace image script frames n from only first p.text p.count p.end fits is p.traces, p.front, h.1)
+    let p =
+    h.0 in (p.text, p.count, p.end, has_trace image script frames n from only first p.text p.count p.end fits is p.traces, p.front, h.1)
 answered image script frames n from only first a b before now (Err (fault.TooSmall small)) fits is h = absurd h
 answered image script frames n from only first a b before now (Err fault.Memory) fits is h = absurd h

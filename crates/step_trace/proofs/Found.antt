@@ -21,10 +21,12 @@ use Rattle.step_trace.specs.Before.{IsFound, Unprinted, line_by, stop_by}
 -- the line by these parts
 abbrev parts : ℕ → ℕ → Only → Cpu → Activity → Option Range → Option Raised → Cpu → List ℕ → List ℕ
 parts step from only cpu does written raised after bytes =
-    if nat_le from step && wants only does cpu.regs.eip written then went_line step does cpu after (exception_of raised) (start_of written) bytes else []
+    if nat_le from step && wants only does cpu.regs.eip written then went_line step does cpu after (exception_of raised)
+    (start_of written) bytes else []
 
 same_bytes : (m : Setting) (b : State) (ram : List ℕ) (places : Places) (range : Option Range) (raised : Option Raised)
-    → IfSome range (λ r. places ≡ places_of (view_before m b) b.cpu r.at r.len) → bytes_by ram places (written_range range raised) ≡ bytes_after m b ram (written_range range raised)
+    → IfSome range (λ r. places ≡ places_of (view_before m b) b.cpu r.at r.len) → bytes_by ram places (written_range range raised)
+    ≡ bytes_after m b ram (written_range range raised)
 unfolding bytes_after
 same_bytes m b ram places None None is = refl
 same_bytes m b ram places None (Some r) is = refl
@@ -32,7 +34,8 @@ same_bytes m b ram places (Some range) None is = ap (λ (p : Places). bytes_by r
 same_bytes m b ram places (Some range) (Some r) is = refl
 
 of_state : (m : Setting) (from : ℕ) (only : Only) (b new : State) → line_if_printed m from only b new
-    ≡ parts b.step from only b.cpu (activity_of m b) (written_range (range_of (activity_of m b) b.cpu.regs) (raised_of m b b.set)) (raised_of m b b.set) new.cpu
+    ≡ parts b.step from only b.cpu (activity_of m b) (written_range (range_of (activity_of m b) b.cpu.regs) (raised_of m b b.set))
+    (raised_of m b b.set) new.cpu
     (bytes_after m b new.ram (written_range (range_of (activity_of m b) b.cpu.regs) (raised_of m b b.set)))
 unfolding line_if_printed is_printed line_of
 of_state m from only b new = refl
@@ -43,11 +46,16 @@ pub line_same : (m : Setting) (from : ℕ) (only : Only) (b new : State) (before
 line_same m from only b new before raised is same =
     let bytes = same_bytes m b new.ram before.places before.range raised is.places in
     ap (parts before.step from only before.cpu before.does (written_range before.range raised) raised new.cpu) bytes
-    ∙ (ap (λ (n : ℕ). parts n from only before.cpu before.does (written_range before.range raised) raised new.cpu (bytes_after m b new.ram (written_range before.range raised))) is.step
-    ∙ (ap (λ (c : Cpu). parts b.step from only c before.does (written_range before.range raised) raised new.cpu (bytes_after m b new.ram (written_range before.range raised))) is.cpu
-    ∙ (ap (λ (a : Activity). parts b.step from only b.cpu a (written_range before.range raised) raised new.cpu (bytes_after m b new.ram (written_range before.range raised))) is.does
-    ∙ (ap (λ (r : Option Range). parts b.step from only b.cpu (activity_of m b) (written_range r raised) raised new.cpu (bytes_after m b new.ram (written_range r raised))) is.range
-    ∙ (ap (λ (x : Option Raised). parts b.step from only b.cpu (activity_of m b) (written_range (range_of (activity_of m b) b.cpu.regs) x) x new.cpu (bytes_after m b new.ram (written_range (range_of (activity_of m b) b.cpu.regs) x))) same
+    ∙ (ap (λ (n : ℕ). parts n from only before.cpu before.does (written_range before.range raised) raised new.cpu
+    (bytes_after m b new.ram (written_range before.range raised))) is.step
+    ∙ (ap (λ (c : Cpu). parts b.step from only c before.does (written_range before.range raised) raised new.cpu
+    (bytes_after m b new.ram (written_range before.range raised))) is.cpu
+    ∙ (ap (λ (a : Activity). parts b.step from only b.cpu a (written_range before.range raised) raised new.cpu
+    (bytes_after m b new.ram (written_range before.range raised))) is.does
+    ∙ (ap (λ (r : Option Range). parts b.step from only b.cpu (activity_of m b) (written_range r raised) raised new.cpu
+    (bytes_after m b new.ram (written_range r raised))) is.range
+    ∙ (ap (λ (x : Option Raised). parts b.step from only b.cpu (activity_of m b) (written_range (range_of (activity_of m b) b.cpu.regs) x) x
+    new.cpu (bytes_after m b new.ram (written_range (range_of (activity_of m b) b.cpu.regs) x))) same
     ∙ sym (of_state m from only b new))))))
 
 abbrev stop_parts : ℕ → ℕ → Activity → Cpu → Option Raised → Option ℕ → List ℕ
@@ -77,7 +85,8 @@ nor true b f = f
 nor false b f = refl
 
 abbrev asked : Setting → ℕ → Only → State → Activity → Bool
-asked m from only b does = nat_le from b.step && wants only does b.cpu.regs.eip (written_range (range_of does b.cpu.regs) (raised_of m b b.set))
+asked m from only b does =
+    nat_le from b.step && wants only does b.cpu.regs.eip (written_range (range_of does b.cpu.regs) (raised_of m b b.set))
 
 asked_of_state : (m : Setting) (from : ℕ) (only : Only) (b : State) → is_printed m from only b ≡ asked m from only b (activity_of m b)
 unfolding is_printed
@@ -92,9 +101,11 @@ unprinted m from only b does is none =
 pub passed : (m : Setting) (from : ℕ) (only : Only) (b : State)
     → ((does : Activity) (written : Option Range) → wants only does b.cpu.regs.eip written ≡ false) → is_printed m from only b ≡ false
 passed m from only b none =
-    asked_of_state m from only b ∙ nor (nat_le from b.step) _ (none (activity_of m b) (written_range (range_of (activity_of m b) b.cpu.regs) (raised_of m b b.set)))
+    asked_of_state m from only b
+    ∙ nor (nat_le from b.step) _ (none (activity_of m b) (written_range (range_of (activity_of m b) b.cpu.regs) (raised_of m b b.set)))
 
-pub no_line : (m : Setting) (from : ℕ) (only : Only) (b after : State) → is_printed m from only b ≡ false → line_if_printed m from only b after ≡ []
+pub no_line : (m : Setting) (from : ℕ) (only : Only) (b after : State) → is_printed m from only b ≡ false
+    → line_if_printed m from only b after ≡ []
 unfolding line_if_printed
 no_line m from only b after f = rw f refl
 

@@ -22,9 +22,11 @@ use Rattle.step_trace.specs.Answers.{WentOn, IsCut, Within, AtStop, StepPuts, Ha
 use Rattle.step_trace.proofs.Quiet.{lines_by_join, lines_by_one, same_line, quiet}
 
 -- the lines of one step more
-lines_on : (m : Setting) (from : ℕ) (only : Only) (old now new : State) (whole left_then : Set) (sets : List Set) (reports : List Report) (report : Report)
+lines_on : (m : Setting) (from : ℕ) (only : Only) (old now new : State) (whole left_then : Set) (sets : List Set)
+    (reports : List Report) (report : Report)
     → Steps m old sets reports (with_set now whole) → step_of m now now.set ≡ Went report (with_set new left_then)
-    → lines_by m from only old (sets ++ now.set ∷ []) ≡ lines_by m from only old sets ++ (line_if_printed m from only now new ++ lines_of report.items)
+    → lines_by m from only old (sets ++ now.set ∷ []) ≡ lines_by m from only old sets
+    ++ (line_if_printed m from only now new ++ lines_of report.items)
 lines_on m from only old now new whole left_then sets reports report steps went =
     lines_by_join m from only old (with_set now whole) sets (now.set ∷ []) reports steps
     ∙ ap (λ (l : List ℕ). lines_by m from only old sets ++ l)
@@ -32,22 +34,26 @@ lines_on m from only old now new whole left_then sets reports report steps went 
     ∙ (append-nil (line_if_printed m from only now (with_set new left_then) ++ lines_of report.items)
     ∙ ap (λ (l : List ℕ). l ++ lines_of report.items) (same_line m from only now new left_then)))
 
-pub steps_more : (m : Setting) (from : ℕ) (only : Only) (old now new : State) (a b : Option (List ℕ)) (report : Report) (left_then : Set) → (h : HasPut m from only old now a b)
+pub steps_more : (m : Setting) (from : ℕ) (only : Only) (old now new : State) (a b : Option (List ℕ)) (report : Report) (left_then : Set)
+    → (h : HasPut m from only old now a b)
     → step_of m now now.set ≡ Went report (with_set new left_then)
     → Steps m old (h.sets ++ now.set ∷ []) (h.reports ++ report ∷ []) (with_set new left_then)
 steps_more m from only old now new a b report left_then h went =
-    steps_on m old (with_set now h.whole) (with_set new left_then) h.sets now.set h.reports report h.steps (part_allowed m now h.whole now.set h.part)
+    steps_on m old (with_set now h.whole) (with_set new left_then) h.sets now.set h.reports report h.steps
+    (part_allowed m now h.whole now.set h.part)
     (same_step m now h.whole now.set ∙ went)
 
 -- one step went
-pub went_on : (m : Setting) (from : ℕ) (only : Only) (old now new : State) (a b c : Option (List ℕ)) → HasPut m from only old now a b → WentOn m from only now new b c → HasPut m from only old new a c
+pub went_on : (m : Setting) (from : ℕ) (only : Only) (old now new : State) (a b c : Option (List ℕ)) → HasPut m from only old now a b
+    → WentOn m from only now new b c → HasPut m from only old new a c
 went_on m from only old now new a b c h w = record {
   sets = h.sets ++ now.set ∷ [];
   reports = h.reports ++ w.report ∷ [];
   whole = w.whole;
   steps = steps_more m from only old now new a b w.report w.whole h w.went;
   part = w.part;
-  text = subst (Appends a c) (sym (lines_on m from only old now new h.whole w.whole h.sets h.reports w.report h.steps w.went)) (appends_both a b c _ _ h.text w.text);
+  text = subst (Appends a c) (sym (lines_on m from only old now new h.whole w.whole h.sets h.reports w.report h.steps w.went))
+      (appends_both a b c _ _ h.text w.text);
 }
 
 -- ---- where it ends
@@ -61,7 +67,8 @@ pub record Extends (m : Setting) (n from : ℕ) (only : Only) (old : State) (fro
   pub rest : List ℕ
   pub whole : text ≡ front ++ rest
 
-pub extended : (m : Setting) (n from : ℕ) (only : Only) (old mid : State) (sets : List Set) (reports : List Report) → Steps m old sets reports mid → mid.step ≤ n
+pub extended : (m : Setting) (n from : ℕ) (only : Only) (old mid : State) (sets : List Set) (reports : List Report)
+    → Steps m old sets reports mid → mid.step ≤ n
     → Extends m n from only old (lines_by m from only old sets)
 unfolding trace_text
 extended m n from only old mid sets reports steps le =
@@ -88,7 +95,8 @@ extended m n from only old mid sets reports steps le =
     }
 
 -- a front of the lines of some steps
-pub front_put : (m : Setting) (n from : ℕ) (only : Only) (old : State) (front : List ℕ) (a b : Option (List ℕ)) → Extends m n from only old front → AppendsFront a b front → PutFront m n from only old a b
+pub front_put : (m : Setting) (n from : ℕ) (only : Only) (old : State) (front : List ℕ) (a b : Option (List ℕ))
+    → Extends m n from only old front → AppendsFront a b front → PutFront m n from only old a b
 front_put m n from only old front a b e q = record {
   text = e.text;
   count = e.count;
@@ -103,8 +111,11 @@ front_put m n from only old front a b e q = record {
 }
 
 -- the run that ends at a stop
-pub stopped_traces : (m : Setting) (n from : ℕ) (only : Only) (old now : State) (a b : Option (List ℕ)) (stop : Stop) → (h : HasPut m from only old now a b) → now.step < n
-    → step_of m now now.set ≡ Halts stop → Traces m n from only old (lines_by m from only old h.sets ++ stop_line m from now ++ end_line now.step (Stopped stop)) now.step (Stopped stop)
+pub stopped_traces : (m : Setting) (n from : ℕ) (only : Only) (old now : State) (a b : Option (List ℕ)) (stop : Stop)
+    → (h : HasPut m from only old now a b) → now.step < n
+    → step_of m now now.set ≡ Halts stop
+    → Traces m n from only old (lines_by m from only old h.sets ++ stop_line m from now ++ end_line now.step (Stopped stop))
+    now.step (Stopped stop)
 unfolding trace_text
 stopped_traces m n from only old now a b stop h below halts = record {
   sets = h.sets;
@@ -112,13 +123,21 @@ stopped_traces m n from only old now a b stop h below halts = record {
   last = with_set now h.whole;
   run = record {
     steps = h.steps;
-    ends = (below, record { set = now.set; allowed = part_allowed m now h.whole now.set h.part; halts = same_step m now h.whole now.set ∙ halts });
+    ends = (
+      below,
+      record {
+        set = now.set;
+        allowed = part_allowed m now h.whole now.set h.part;
+        halts = same_step m now h.whole now.set ∙ halts;
+      },
+    );
   };
   count_is = refl;
   text_is = refl;
 }
 
-pub bound_traces : (m : Setting) (n from : ℕ) (only : Only) (old now : State) (a b : Option (List ℕ)) → (h : HasPut m from only old now a b) → now.step ≡ n
+pub bound_traces : (m : Setting) (n from : ℕ) (only : Only) (old now : State) (a b : Option (List ℕ))
+    → (h : HasPut m from only old now a b) → now.step ≡ n
     → Traces m n from only old (lines_by m from only old h.sets ++ [] ++ end_line now.step Bound) now.step Bound
 unfolding trace_text
 bound_traces m n from only old now a b h is = record {
@@ -131,20 +150,26 @@ bound_traces m n from only old now a b h is = record {
 }
 
 -- a step that stops
-pub stops_there : (m : Setting) (n from : ℕ) (only : Only) (old now new : State) (a b c : Option (List ℕ)) (stop : Stop) → HasPut m from only old now a b
-    → StepPuts m from only now new b c (Ok (pause.Stopped stop)) → now.step < n → PausesWith m n from only old new a c (Ok (pause.Stopped stop))
-stops_there m n from only old now new a b c stop h s below = (record { last = now; between = b; before = h; below = below; count = s.1; line = s.2 }, s.0)
+pub stops_there : (m : Setting) (n from : ℕ) (only : Only) (old now new : State) (a b c : Option (List ℕ)) (stop : Stop)
+    → HasPut m from only old now a b
+    → StepPuts m from only now new b c (Ok (pause.Stopped stop)) → now.step < n
+    → PausesWith m n from only old new a c (Ok (pause.Stopped stop))
+stops_there m n from only old now new a b c stop h s below =
+    (record { last = now; between = b; before = h; below = below; count = s.1; line = s.2 }, s.0)
 
 -- a step whose lines were cut
-pub cut_there : (m : Setting) (n from : ℕ) (only : Only) (old now new : State) (a b c : Option (List ℕ)) → HasPut m from only old now a b → IsCut m from only now new b c → now.step < n → PutFront m n from only old a c
+pub cut_there : (m : Setting) (n from : ℕ) (only : Only) (old now new : State) (a b c : Option (List ℕ)) → HasPut m from only old now a b
+    → IsCut m from only now new b c → now.step < n → PutFront m n from only old a c
 cut_there m n from only old now new a b c h (Within report whole went part q) below =
     let steps = steps_more m from only old now new a b report whole h went in
     let count = counted_by m now (with_set new whole) now.set report went in
-    let e = extended m n from only old (with_set new whole) (h.sets ++ now.set ∷ []) (h.reports ++ report ∷ []) steps (omega (arith, count, below)) in
+    let e = extended m n from only old (with_set new whole) (h.sets ++ now.set ∷ []) (h.reports ++ report ∷ []) steps
+    (omega (arith, count, below)) in
     front_put m n from only old (lines_by m from only old (h.sets ++ now.set ∷ [])) a c e
     (front_of a b c (lines_by m from only old h.sets) (line_if_printed m from only now new ++ lines_of report.items) [] _ h.text q
     (lines_on m from only old now new h.whole whole h.sets h.reports report h.steps went
-    ∙ ap (λ (l : List ℕ). lines_by m from only old h.sets ++ l) (sym (append-nil (line_if_printed m from only now new ++ lines_of report.items)))))
+    ∙ ap (λ (l : List ℕ). lines_by m from only old h.sets ++ l)
+    (sym (append-nil (line_if_printed m from only now new ++ lines_of report.items)))))
 cut_there m n from only old now new a b c h (AtStop stop halts q) below = record {
   text = lines_by m from only old h.sets ++ stop_line m from now ++ end_line now.step (Stopped stop);
   count = now.step;
@@ -155,7 +180,8 @@ cut_there m n from only old now new a b c h (AtStop stop halts q) below = record
 }
 
 -- a slice before the first step that is printed
-pub from_slice : (m : Setting) (exact : Bool) (from : ℕ) (only : Only) (old new : State) (a b : Option (List ℕ)) (reports : List Report) → Passes m exact old reports new → new.step ≤ from
+pub from_slice : (m : Setting) (exact : Bool) (from : ℕ) (only : Only) (old new : State) (a b : Option (List ℕ)) (reports : List Report)
+    → Passes m exact old reports new → new.step ≤ from
     → Appends a b (lines_of (trace_of reports)) → HasPut m from only old new a b
 from_slice m exact from only old new a b reports p le put = record {
   sets = p.sets;

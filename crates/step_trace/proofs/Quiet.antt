@@ -16,20 +16,24 @@ use Rattle.step_trace.specs.Lines.{is_printed, line_if_printed, line_of, step_li
 use Rattle.step_trace.specs.Traces.{lines_by, WithoutLines}
 
 -- some steps and then others
-pub lines_by_join : (m : Setting) (from : ℕ) (only : Only) (old mid : State) (sets more : List Set) (reports : List Report) → Steps m old sets reports mid
+pub lines_by_join : (m : Setting) (from : ℕ) (only : Only) (old mid : State) (sets more : List Set) (reports : List Report)
+    → Steps m old sets reports mid
     → lines_by m from only old (sets ++ more) ≡ lines_by m from only old sets ++ lines_by m from only mid more
 lines_by_join m from only old mid sets more reports steps =
     ap (λ (l : List Taken). flat_map (step_lines m from only) l) (taken_join m old mid sets more reports steps)
     ∙ flat_map-append (step_lines m from only) (steps_by m old sets) (steps_by m mid more)
 
 -- one step
-pub lines_by_one : (m : Setting) (from : ℕ) (only : Only) (b after : State) (set : Set) (sets : List Set) (report : Report) → step_of m b set ≡ Went report after
-    → lines_by m from only b (set ∷ sets) ≡ line_if_printed m from only (with_set b set) after ++ lines_of report.items ++ lines_by m from only after sets
+pub lines_by_one : (m : Setting) (from : ℕ) (only : Only) (b after : State) (set : Set) (sets : List Set) (report : Report)
+    → step_of m b set ≡ Went report after
+    → lines_by m from only b (set ∷ sets) ≡ line_if_printed m from only (with_set b set) after ++ lines_of report.items
+    ++ lines_by m from only after sets
 lines_by_one m from only b after set sets report is =
     ap (λ (l : List Taken). flat_map (step_lines m from only) l) (taken_first m b after set sets report is)
 
 -- whatever is cached after it
-pub same_line : (m : Setting) (from : ℕ) (only : Only) (b new : State) (whole : Set) → line_if_printed m from only b (with_set new whole) ≡ line_if_printed m from only b new
+pub same_line : (m : Setting) (from : ℕ) (only : Only) (b new : State) (whole : Set) → line_if_printed m from only b (with_set new whole)
+    ≡ line_if_printed m from only b new
 unfolding line_if_printed line_of
 same_line m from only b new whole = refl
 
@@ -41,7 +45,8 @@ pub unprinted : (m : Setting) (from : ℕ) (only : Only) (b after : State) → b
 unfolding line_if_printed is_printed
 unprinted m from only b after lt = rw (not_yet from b.step _ lt) refl
 
-pub quiet : (m : Setting) (from : ℕ) (only : Only) (old new : State) (sets : List Set) (reports : List Report) → Steps m old sets reports new → new.step ≤ from
+pub quiet : (m : Setting) (from : ℕ) (only : Only) (old new : State) (sets : List Set) (reports : List Report)
+    → Steps m old sets reports new → new.step ≤ from
     → lines_by m from only old sets ≡ lines_of (trace_of reports)
 unfolding Steps
 quiet m from only old new [] reports steps le = sym (ap (λ (r : List Report). lines_of (trace_of r)) steps.0)
@@ -57,12 +62,16 @@ quiet m from only old new (set ∷ sets) reports steps le =
 
 -- ---- without the lines that are added
 
-of_items : (taken : List Taken) → flat_map (λ (t : Taken). lines_of t.report.items) taken ≡ lines_of (trace_of (map (λ (t : Taken). t.report) taken))
+of_items : (taken : List Taken) → flat_map (λ (t : Taken). lines_of t.report.items) taken ≡ lines_of
+    (trace_of (map (λ (t : Taken). t.report) taken))
 of_items [] = refl
 of_items (t ∷ taken) =
-    ap (λ (l : List ℕ). lines_of t.report.items ++ l) (of_items taken) ∙ sym (lines_join t.report.items (trace_of (map (λ (u : Taken). u.report) taken)))
+    ap (λ (l : List ℕ). lines_of t.report.items ++ l) (of_items taken)
+    ∙ sym (lines_join t.report.items (trace_of (map (λ (u : Taken). u.report) taken)))
 
 pub without_lines : WithoutLines
 without_lines m old last sets reports end steps =
-    ap (λ (l : List ℕ). l ++ end_line last.step end) (of_items (steps_by m old sets) ∙ ap (λ (r : List Report). lines_of (trace_of r)) (steps_are_taken m old last sets reports steps).reports_are)
+    ap (λ (l : List ℕ). l ++ end_line last.step end)
+    (of_items (steps_by m old sets) ∙ ap (λ (r : List Report). lines_of (trace_of r))
+    (steps_are_taken m old last sets reports steps).reports_are)
     ∙ text_is reports last.step end

@@ -17,13 +17,19 @@ never_short : (v : View) (at : ℕ) (front : List ℕ) (d : Decoded) → Answers
 never_short v at front (begins.Insn insn len) a eleven = refl
 never_short v at front begins.Outside a eleven = refl
 never_short v at front begins.Short cut eleven =
-    absurd (omega (arith, at_most_eleven (front ++ cut.next ∷ cut.more) cut.insn cut.whole, length-append front (cut.next ∷ cut.more), eleven))
+    absurd (omega (
+      arith,
+      at_most_eleven (front ++ cut.next ∷ cut.more) cut.insn cut.whole,
+      length-append front (cut.next ∷ cut.more),
+      eleven,
+    ))
 
 by_bytes : (v : View) (at len : ℕ) → len ≡ front_len at → instruction_at v at ≡ by_page v at (page_bytes v at len)
 unfolding instruction_at
 by_bytes v at len is = ap (λ (n : ℕ). by_page v at (page_bytes v at n)) (sym is)
 
-pub told_by_bytes : (v : View) (at : ℕ) (front : List ℕ) → AreBytes front → length front ≡ 11 → 11 ≡ front_len at → Some front ≡ page_bytes v at 11
+pub told_by_bytes : (v : View) (at : ℕ) (front : List ℕ) → AreBytes front → length front ≡ 11 → 11 ≡ front_len at
+    → Some front ≡ page_bytes v at 11
     → Some (decoded front) ≡ instruction_at v at
 told_by_bytes v at front fit eleven len is =
     sym (by_bytes v at 11 len ∙ (ap (by_page v at) (sym is) ∙ never_short v at front (decoded front) (answered front fit) eleven))

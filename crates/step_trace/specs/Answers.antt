@@ -36,7 +36,8 @@ pub record WentOn (m : Setting) (from : ℕ) (only : Only) (b new : State) (told
 pub data IsCut (m : Setting) (from : ℕ) (only : Only) (b new : State) (told tells : Option (List ℕ)) : Type 0 where
   Within : (report : Report) → (whole : Set) → step_of m b b.set ≡ Went report (with_set new whole) → IsPartOf new.set whole
       → AppendsFront told tells (line_if_printed m from only b new ++ lines_of report.items) → IsCut m from only b new told tells
-  AtStop : (stop : Stop) → step_of m b b.set ≡ Halts stop → AppendsFront told tells (stop_line m from b) → IsCut m from only b new told tells
+  AtStop : (stop : Stop) → step_of m b b.set ≡ Halts stop → AppendsFront told tells (stop_line m from b)
+      → IsCut m from only b new told tells
 
 abbrev pub StepPuts : Setting → ℕ → Only → State → State → Option (List ℕ) → Option (List ℕ) → Result Pause Failed → Type 0
 StepPuts m from only b new told tells (Ok pause.Reached) = WentOn m from only b new told tells
@@ -92,7 +93,8 @@ abbrev pub TraceAnswers : Image → Events → ℕ → ℕ → ℕ → Only → 
 TraceAnswers image script frames n from only old new before now (Ok ended) =
     (text : List ℕ) × HasTrace image script frames n from only text ended.steps ended.end × Appends old new text × (now ≡ before)
 TraceAnswers image script frames n from only old new before now (Err fault.Write) =
-    (text : List ℕ) × (count : ℕ) × (end : End) × HasTrace image script frames n from only text count end × AppendsFront old new text × Rose before now
+    (text : List ℕ) × (count : ℕ) × (end : End) × HasTrace image script frames n from only text count end
+    × AppendsFront old new text × Rose before now
 TraceAnswers image script frames n from only old new before now (Err (fault.TooSmall small)) =
     (frames < need image) × (small ≡ record { need = need image; have = frames }) × (new ≡ old) × (now ≡ before)
 TraceAnswers image script frames n from only old new before now (Err fault.Memory) = (new ≡ old) × (now ≡ before)

@@ -22,6 +22,7 @@ ToldInOne first last (Stop stop) s = (denied_page s ≡ Some first) ⊎ (denied_
 
 -- a fetch, and a range that doesn't pass the last address
 pub record DenialsTell : Type 0 where
-  pub fetch : (s : Space) (at len : ℕ) (user : Bool) → s.mode ≡ Bare → ToldIn (at / 4096) (fetches s at len user).0 (fetches s at len user).1
+  pub fetch : (s : Space) (at len : ℕ) (user : Bool) → s.mode ≡ Bare
+      → ToldIn (at / 4096) (fetches s at len user).0 (fetches s at len user).1
   pub range : (s : Space) (at len : ℕ) (access : Access) → s.mode ≡ Bare → at + len ≤ 2 ^ 32
       → ToldInOne (at / 4096) ((at + len - 1) / 4096) (uses s at len access).0 (uses s at len access).1

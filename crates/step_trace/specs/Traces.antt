@@ -20,7 +20,8 @@ lines_by m from only b sets = flat_map (step_lines m from only) (steps_by m b se
 
 -- with the line of the step that stops and the last line
 unfoldable pub trace_text : Setting → ℕ → Only → State → List Set → State → List Set → End → List ℕ
-trace_text m from only b sets last stopping end = lines_by m from only b sets ++ lines_of_stop m from last stopping ++ end_line last.step end
+trace_text m from only b sets last stopping end =
+    lines_by m from only b sets ++ lines_of_stop m from last stopping ++ end_line last.step end
 
 -- Some run of at most n steps from a state has this text, count and end.
 pub record Traces (m : Setting) (n from : ℕ) (only : Only) (old : State) (text : List ℕ) (count : ℕ) (end : End) : Type 0 where
@@ -32,7 +33,8 @@ pub record Traces (m : Setting) (n from : ℕ) (only : Only) (old : State) (text
   pub text_is : text ≡ trace_text m from only old sets last (stopping m n last end run.ends) end
 
 -- a run of the image from its boot
-pub record HasTrace (image : Image) (script : Events) (frames n from : ℕ) (only : Only) (text : List ℕ) (count : ℕ) (end : End) : Type 0 where
+pub record HasTrace (image : Image) (script : Events) (frames n from : ℕ) (only : Only) (text : List ℕ) (count : ℕ)
+    (end : End) : Type 0 where
   pub fits : need image ≤ frames
   pub traces : Traces (bare image script frames) n from only (boot (bare image script frames)) text count end
 
@@ -41,4 +43,5 @@ pub record HasTrace (image : Image) (script : Events) (frames n from : ℕ) (onl
 abbrev pub WithoutLines : Type 0
 WithoutLines =
     (m : Setting) (old last : State) (sets : List Set) (reports : List Report) (end : End) → Steps m old sets reports last
-    → flat_map (λ (t : Taken). lines_of t.report.items) (steps_by m old sets) ++ end_line last.step end ≡ text_of (trace_of reports) last.step end
+    → flat_map (λ (t : Taken). lines_of t.report.items) (steps_by m old sets)
+    ++ end_line last.step end ≡ text_of (trace_of reports) last.step end

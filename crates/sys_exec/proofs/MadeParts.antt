@@ -75,10 +75,12 @@ pull cpu = search reaches depth 8
 pub push : (cpu : Cpu) (v : ℕ) → Steps denials (cpu.cpl == 3) (pushed cpu v)
 unfolding pushed
 push cpu v =
-    opened_then (esp_below 4 cpu.regs, 4) (Made.opened (esp_below 4 cpu.regs) 4 (by_level cpu true) (λ low. low) refl (omega arith) (omega arith))
+    opened_then (esp_below 4 cpu.regs, 4)
+    (Made.opened (esp_below 4 cpu.regs) 4 (by_level cpu true) (λ low. low) refl (omega arith) (omega arith))
     (λ done. Made.writing (esp_below 4 cpu.regs) Long v (omega arith) (omega arith))
 
-pub operand_opens : (cpu : Cpu) (a : Address) (len : ℕ) → 1 ≤ len → len ≤ 4096 → Made denials (cpu.cpl == 3) (Unit {0}) (0, 0) (address_of a cpu.regs, len) (operand_reached cpu a len true)
+pub operand_opens : (cpu : Cpu) (a : Address) (len : ℕ) → 1 ≤ len → len ≤ 4096
+    → Made denials (cpu.cpl == 3) (Unit {0}) (0, 0) (address_of a cpu.regs, len) (operand_reached cpu a len true)
 unfolding operand_reached
 operand_opens cpu a len some short =
     Made.follows (unless_steps _ _) (λ done. Made.opened (address_of a cpu.regs) len (by_level cpu true) (λ low. low) refl some short)
@@ -150,4 +152,5 @@ pub interrupt_returned : (cpu : Cpu) → Steps denials (cpu.cpl == 3) (interrupt
 unfolding interrupt_return
 interrupt_returned cpu = search (steps, popped_made, return_found, same_level, outer_level) depth 12
 
-pub ruleset parts = (reaches, selector_found, long, pull, push, data_loaded, stack_found, jump_found, task_loaded, marks, interrupt_returned)
+pub ruleset parts =
+    (reaches, selector_found, long, pull, push, data_loaded, stack_found, jump_found, task_loaded, marks, interrupt_returned)

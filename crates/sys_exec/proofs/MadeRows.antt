@@ -103,7 +103,8 @@ unfolding selector_kept
 kept len cpu sel (Register k) = search parts
 kept len cpu sel (Memory a) =
     opened_then (address_of a cpu.regs, 2) (operand_opens cpu a 2 (omega arith) (omega arith))
-    (λ done. Made.follows (Made.writing (address_of a cpu.regs) Word sel (omega arith) (omega arith)) (λ done. Made.given (record { cpu = past cpu len; effect = effects.Next })))
+    (λ done. Made.follows (Made.writing (address_of a cpu.regs) Word sel (omega arith) (omega arith))
+    (λ done. Made.given (record { cpu = past cpu len; effect = effects.Next })))
 kept len cpu sel into = refuses_steps unsupported
 
 seg_read : (insn : Insn) (b : Operand) (len : ℕ) (cpu : Cpu) → Steps denials (cpu.cpl == 3) (read_seg insn b len cpu)
@@ -159,9 +160,11 @@ through : (a : Address) (len : ℕ) (cpu : Cpu) → Steps denials (cpu.cpl == 3)
 unfolding called_through
 through a len cpu =
     then_steps (operand_4 cpu a false)
-    (λ done. opened_then (esp_below 4 cpu.regs, 4) (Made.opened (esp_below 4 cpu.regs) 4 (by_level cpu true) (λ low. low) refl (omega arith) (omega arith))
+    (λ done. opened_then (esp_below 4 cpu.regs, 4)
+    (Made.opened (esp_below 4 cpu.regs) 4 (by_level cpu true) (λ low. low) refl (omega arith) (omega arith))
     (λ done. Made.follows (Made.reading_earlier (address_of a cpu.regs) Long)
-    (λ target. Made.follows (Made.writing (esp_below 4 cpu.regs) Long (past cpu len).regs.eip (omega arith) (omega arith)) (λ done. Made.given target))))
+    (λ target. Made.follows (Made.writing (esp_below 4 cpu.regs) Long (past cpu len).regs.eip (omega arith) (omega arith))
+    (λ done. Made.given target))))
 
 call : (a : Operand) (len : ℕ) (cpu : Cpu) → Steps denials (cpu.cpl == 3) (call_to a len cpu)
 unfolding call_to

@@ -20,7 +20,8 @@ use Rattle.sys_exec.proofs.MadeRows.{sys_steps}
 pub work_agrees : (insn : Insn) (len : ℕ) (cpu : Cpu) → Agrees is_extra (sys_work insn len cpu)
 work_agrees insn len cpu = made_agrees {d = denials} is_extra works.told (sys_steps insn len cpu)
 
-refusal_agrees : (cpu : Cpu) (r : Refusal) (s : Space) (p : Outcome Refusal SysOutcome) → (is_extra r ≡ true) ⊎ (p ≡ Err (r, bare s)) → ToldAgrees (told_refusal cpu r s) (told cpu p)
+refusal_agrees : (cpu : Cpu) (r : Refusal) (s : Space) (p : Outcome Refusal SysOutcome) → (is_extra r ≡ true) ⊎ (p ≡ Err (r, bare s))
+    → ToldAgrees (told_refusal cpu r s) (told cpu p)
 refusal_agrees cpu (Fault code at) s p (inl e) = absurd (clash e)
 refusal_agrees cpu (Fault code at) s p (inr e) = inr (ap (told cpu) e)
 refusal_agrees cpu (Raise vector code) s p (inl e) = absurd (clash e)
@@ -34,7 +35,8 @@ told_agrees cpu (Ok x) p (inr e) = inr (ap (told cpu) e)
 told_agrees cpu (Err r) p h = refusal_agrees cpu r.0 r.1 p h
 
 pub rows_agree : RowsAgree
-rows_agree insn len cpu s = told_agrees cpu (sys_work insn len cpu s) (sys_work insn len cpu (bare s)) ((work_agrees insn len cpu).at_each s)
+rows_agree insn len cpu s =
+    told_agrees cpu (sys_work insn len cpu s) (sys_work insn len cpu (bare s)) ((work_agrees insn len cpu).at_each s)
 
 pub user_flags_agree : UserFlagsAgree
 unfolding new_flags

@@ -27,7 +27,8 @@ clear_interrupts len cpu = do
 unfoldable pub set_interrupts : ℕ → Cpu → Work Refusal SysOutcome
 set_interrupts len cpu = do
   _ ← unless protection_0 (is_within cpu)
-  next (record (with_flags (past cpu len) (flag_put cpu.regs.flags interrupt_at true)) { held = cpu.held || not (bit cpu.regs.flags.bits interrupt_at) })
+  next (record (with_flags (past cpu len) (flag_put cpu.regs.flags interrupt_at true))
+      { held = cpu.held || not (bit cpu.regs.flags.bits interrupt_at) })
 
 -- HLT
 unfoldable pub halt : ℕ → Cpu → Work Refusal SysOutcome

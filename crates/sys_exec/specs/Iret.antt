@@ -77,7 +77,8 @@ kept_segment cpl hidden = if nat_lt hidden.dpl cpl then record { sel = 0; null =
 
 abbrev pub outer_segments : Cpu → ℕ → Hidden → Hidden → List Hidden
 outer_segments cpu cpl code stack =
-    slice_set (slice_set (slice_set (slice_set cpu.seg 0 (kept_segment cpl (seg_of cpu 0))) 3 (kept_segment cpl (seg_of cpu 3))) 1 code) 2 stack
+    slice_set (slice_set (slice_set (slice_set cpu.seg 0 (kept_segment cpl (seg_of cpu 0))) 3 (kept_segment cpl (seg_of cpu 3))) 1 code) 2
+    stack
 
 unfoldable pub return_same : Cpu → Popped → Loading → Work Refusal Cpu
 return_same cpu p code = do

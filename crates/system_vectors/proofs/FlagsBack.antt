@@ -39,11 +39,15 @@ interrupts_off f small t n =
 put_same : (f at : ℕ) (b : Bool) → bit f at ≡ b → with_bit f at b ≡ f
 put_same f at b e = subst (λ x. with_bit f at x ≡ f) e (with_bit_same f at)
 
-seven : (g f : ℕ) → bit g 0 ≡ bit f 0 → bit g 2 ≡ bit f 2 → bit g 4 ≡ bit f 4 → bit g 6 ≡ bit f 6 → bit g 7 ≡ bit f 7 → bit g 10 ≡ bit f 10 → bit g 11 ≡ bit f 11 →
-    with_bit (with_bit (with_bit (with_bit (with_bit (with_bit (with_bit g 0 (bit f 0)) 2 (bit f 2)) 4 (bit f 4)) 6 (bit f 6)) 7 (bit f 7)) 10 (bit f 10)) 11 (bit f 11) ≡ g
+seven : (g f : ℕ) → bit g 0 ≡ bit f 0 → bit g 2 ≡ bit f 2 → bit g 4 ≡ bit f 4 → bit g 6 ≡ bit f 6 → bit g 7 ≡ bit f 7 → bit g 10 ≡ bit f 10
+    → bit g 11 ≡ bit f 11 →
+    with_bit (with_bit (with_bit (with_bit (with_bit (with_bit (with_bit g 0 (bit f 0)) 2 (bit f 2)) 4 (bit f 4)) 6 (bit f 6)) 7 (bit f 7))
+    10 (bit f 10)) 11 (bit f 11) ≡ g
 seven g f a b c d e h i =
-    ap (λ x. with_bit (with_bit (with_bit (with_bit (with_bit (with_bit x 2 (bit f 2)) 4 (bit f 4)) 6 (bit f 6)) 7 (bit f 7)) 10 (bit f 10)) 11 (bit f 11)) (put_same g 0 _ a)
-    ∙ ap (λ x. with_bit (with_bit (with_bit (with_bit (with_bit x 4 (bit f 4)) 6 (bit f 6)) 7 (bit f 7)) 10 (bit f 10)) 11 (bit f 11)) (put_same g 2 _ b)
+    ap (λ x. with_bit (with_bit (with_bit (with_bit (with_bit (with_bit x 2 (bit f 2)) 4 (bit f 4)) 6 (bit f 6)) 7 (bit f 7)) 10 (bit f 10))
+    11 (bit f 11)) (put_same g 0 _ a)
+    ∙ ap (λ x. with_bit (with_bit (with_bit (with_bit (with_bit x 4 (bit f 4)) 6 (bit f 6)) 7 (bit f 7)) 10 (bit f 10)) 11 (bit f 11))
+    (put_same g 2 _ b)
     ∙ ap (λ x. with_bit (with_bit (with_bit (with_bit x 6 (bit f 6)) 7 (bit f 7)) 10 (bit f 10)) 11 (bit f 11)) (put_same g 4 _ c)
     ∙ ap (λ x. with_bit (with_bit (with_bit x 7 (bit f 7)) 10 (bit f 10)) 11 (bit f 11)) (put_same g 6 _ d)
     ∙ ap (λ x. with_bit (with_bit x 10 (bit f 10)) 11 (bit f 11)) (put_same g 7 _ e)

@@ -21,11 +21,13 @@ IsDone P (Err e) = Unit {0}
 pub record Ends {E A : Type 0} (P : A → Type 0) (w : Work E A) : Type 0 where
   pub at_each : (s : Space) → IsDone P (w s)
 
-after : {E A B : Type 0} (P : A → Type 0) (Q : B → Type 0) (o : Outcome E A) (f : A → Work E B) → IsDone P o → ((x : A) → P x → Ends Q (f x)) → IsDone Q (on_value o f)
+after : {E A B : Type 0} (P : A → Type 0) (Q : B → Type 0) (o : Outcome E A) (f : A → Work E B) → IsDone P o
+    → ((x : A) → P x → Ends Q (f x)) → IsDone Q (on_value o f)
 after P Q (Ok x) f p h = (h x.0 p).at_each x.1
 after P Q (Err e) f p h = tt
 
-pub ends_then : {E A B : Type 0} {Q : B → Type 0} (P : A → Type 0) {w : Work E A} {f : A → Work E B} → Ends P w → ((x : A) → P x → Ends Q (f x)) → Ends Q (w >>= f)
+pub ends_then : {E A B : Type 0} {Q : B → Type 0} (P : A → Type 0) {w : Work E A} {f : A → Work E B} → Ends P w
+    → ((x : A) → P x → Ends Q (f x)) → Ends Q (w >>= f)
 ends_then {Q = Q} P {w = w} {f = f} hw hf = record { at_each = λ s. after P Q (w s) f (hw.at_each s) hf }
 
 -- a part of which nothing is to be known
@@ -47,7 +49,8 @@ of_test : {E : Type 0} (e : E) (test : Bool) → Ends (λ x. test ≡ true) (unl
 of_test e true = record { at_each = λ s. refl }
 of_test e false = record { at_each = λ s. tt }
 
-pub tested : {E B : Type 0} (Q : B → Type 0) (e : E) (test : Bool) (f : Unit {0} → Work E B) → ((x : Unit {0}) → test ≡ true → Ends Q (f x)) → Ends Q (unless e test >>= f)
+pub tested : {E B : Type 0} (Q : B → Type 0) (e : E) (test : Bool) (f : Unit {0} → Work E B) → ((x : Unit {0}) → test ≡ true → Ends Q (f x))
+    → Ends Q (unless e test >>= f)
 tested Q e test f h = ends_then (λ x. test ≡ true) (of_test e test) h
 
 pub given : {E A : Type 0} {P : A → Type 0} {x : A} → P x → Ends {E = E} P (gives x)

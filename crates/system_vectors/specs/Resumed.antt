@@ -42,7 +42,9 @@ outer_frame_of cpu = record { top = slice_index cpu.regs.r 4; sel = (seg_of cpu 
 -- the handler at its IRET: as it was entered, with the error code taken from the stack
 abbrev pub at_return : Option ℕ → Cpu → Cpu
 at_return code handler =
-    record handler { regs = record handler.regs { r = slice_set handler.regs.r 4 ((slice_index handler.regs.r 4 + code_len code) % 2 ^ 32) } }
+    record handler {
+      regs = record handler.regs { r = slice_set handler.regs.r 4 ((slice_index handler.regs.r 4 + code_len code) % 2 ^ 32) };
+    }
 
 -- what IRET pops is what the delivery pushed
 pub record FindsFrame (cpu handler : Cpu) (s : Space) : Type 0 where

@@ -61,7 +61,8 @@ with_byte b n [] ((y ∷ line) ∷ ys) p q = ap (λ (e : Bool). cond (e && false
 with_byte b n ([] ∷ xs) ys p q = absurd p
 with_byte b n ((x ∷ line) ∷ xs) [] p q = ap (λ (e : Bool). cond (e && false) (differing (n + 1) xs []) (Some n)) (eqb_self b)
 with_byte b n ((x ∷ line) ∷ xs) ([] ∷ ys) p q = absurd q
-with_byte b n ((x ∷ line) ∷ xs) ((y ∷ other) ∷ ys) p q = ap (λ (e : Bool). cond (e && bytes_eq (x ∷ line) (y ∷ other)) (differing (n + 1) xs ys) (Some n)) (eqb_self b)
+with_byte b n ((x ∷ line) ∷ xs) ((y ∷ other) ∷ ys) p q =
+    ap (λ (e : Bool). cond (e && bytes_eq (x ∷ line) (y ∷ other)) (differing (n + 1) xs ys) (Some n)) (eqb_self b)
 
 -- ---- two texts that part after a common front
 
@@ -93,12 +94,14 @@ at_once n (x ∷ xs) (y ∷ ys) part = by_lines n x y (lines (x ∷ xs)) (lines 
 abbrev newlines : List ℕ → ℕ
 newlines text = count_by (λ b. b == 10) text
 
-by_end : (ends : Bool) (n b : ℕ) (xs ys : List ℕ) → differing n (cond ends ((b ∷ []) ∷ lines xs) (begun_by b (lines xs))) (cond ends ((b ∷ []) ∷ lines ys) (begun_by b (lines ys))) ≡ differing (cond ends (n + 1) n) (lines xs) (lines ys)
+by_end : (ends : Bool) (n b : ℕ) (xs ys : List ℕ) → differing n (cond ends ((b ∷ []) ∷ lines xs) (begun_by b (lines xs)))
+    (cond ends ((b ∷ []) ∷ lines ys) (begun_by b (lines ys))) ≡ differing (cond ends (n + 1) n) (lines xs) (lines ys)
 unfolding differing
 by_end true n b xs ys = ap (λ (e : Bool). cond (e && true) (differing (n + 1) (lines xs) (lines ys)) (Some n)) (eqb_self b)
 by_end false n b xs ys = with_byte b n (lines xs) (lines ys) (full xs) (full ys)
 
-one_byte : (n b : ℕ) (xs ys : List ℕ) → differing n (lines (b ∷ xs)) (lines (b ∷ ys)) ≡ differing (cond (b == 10) (n + 1) n) (lines xs) (lines ys)
+one_byte : (n b : ℕ) (xs ys : List ℕ) → differing n (lines (b ∷ xs)) (lines (b ∷ ys)) ≡ differing (cond (b == 10) (n + 1) n)
+    (lines xs) (lines ys)
 unfolding lines
 one_byte n b xs ys = by_end (b == 10) n b xs ys
 
@@ -113,7 +116,8 @@ count_step false n b front e =
     let none : as_count (b == 10) ≡ 0 = ap as_count e in
     omega (arith, none, sum_by-cons (λ (x : ℕ). as_count (x == 10)) b front)
 
-pub differ_behind : (n : ℕ) (front xs ys : List ℕ) → Part xs ys → differing n (lines (front ++ xs)) (lines (front ++ ys)) ≡ Some (newlines front + n)
+pub differ_behind : (n : ℕ) (front xs ys : List ℕ) → Part xs ys → differing n (lines (front ++ xs)) (lines (front ++ ys)) ≡ Some
+    (newlines front + n)
 differ_behind n [] xs ys part = let same : 0 + n ≡ n = omega arith in at_once n xs ys part ∙ ap (λ (k : ℕ). Some k) (sym same)
 differ_behind n (b ∷ front) xs ys part =
     one_byte n b (front ++ xs) (front ++ ys)
@@ -137,7 +141,8 @@ part_short [] lt = absurd (omega arith)
 part_short (y ∷ later) lt = tt
 
 -- a byte was wrong
-pub wrong_differs : (text : List ℕ) (at b : ℕ) (rest : List ℕ) → slice_get text at ≢ Some b → differing 1 (lines ((take at text ++ b ∷ []) ++ rest)) (lines text) ≡ Some (line_behind (take at text))
+pub wrong_differs : (text : List ℕ) (at b : ℕ) (rest : List ℕ) → slice_get text at ≢ Some b
+    → differing 1 (lines ((take at text ++ b ∷ []) ++ rest)) (lines text) ≡ Some (line_behind (take at text))
 wrong_differs text at b rest other =
     let given : (take at text ++ b ∷ []) ++ rest ≡ take at text ++ (b ∷ rest) = append_assoc (take at text) (b ∷ []) rest in
     let whole : take at text ++ drop at text ≡ text = take-append-drop at text in
@@ -147,28 +152,34 @@ wrong_differs text at b rest other =
     (differ_behind 1 (take at text) (b ∷ rest) (drop at text) part))
 
 -- the text has more
-pub short_differs : (text : List ℕ) (at : ℕ) → at < length text → differing 1 (lines (take at text)) (lines text) ≡ Some (line_behind (take at text))
+pub short_differs : (text : List ℕ) (at : ℕ) → at < length text → differing 1 (lines (take at text)) (lines text) ≡ Some
+    (line_behind (take at text))
 short_differs text at lt =
     let whole : take at text ++ drop at text ≡ text = take-append-drop at text in
     let more : 0 < length (drop at text) = omega (arith, length-drop at text) in
     subst (λ (t : List ℕ). differing 1 (lines (take at text)) (lines t) ≡ Some (line_behind (take at text))) whole
-    (subst (λ (g : List ℕ). differing 1 (lines g) (lines (take at text ++ drop at text)) ≡ Some (line_behind (take at text))) (append-nil (take at text))
+    (subst (λ (g : List ℕ). differing 1 (lines g) (lines (take at text ++ drop at text)) ≡ Some (line_behind (take at text)))
+    (append-nil (take at text))
     (differ_behind 1 (take at text) [] (drop at text) (part_short (drop at text) more)))
 
 false_true : false ≡ true → ⊥
 false_true e = cc
 
-differs_by : (text : List ℕ) (at : ℕ) (wrong : Option ℕ) (faults : ℕ) → IsMatched (record { text = text; at = at; wrong = wrong; faults = faults })
-    → (wrong ≡ None → at ≢ length text) → DiffersAt (record { text = text; at = at; wrong = wrong; faults = faults }) (line_behind (take at text))
+differs_by : (text : List ℕ) (at : ℕ) (wrong : Option ℕ) (faults : ℕ)
+    → IsMatched (record { text = text; at = at; wrong = wrong; faults = faults })
+    → (wrong ≡ None → at ≢ length text) → DiffersAt (record { text = text; at = at; wrong = wrong; faults = faults })
+    (line_behind (take at text))
 differs_by text at None faults h other =
     let lt : at < length text = let within : at ≤ length text = h.within in let apart : at ≢ length text = other refl in omega arith in
     record {
-      here = subst (λ (g : List ℕ). differing 1 (lines g) (lines text) ≡ Some (line_behind (take at text))) (sym (append-nil (take at text))) (short_differs text at lt);
+      here = subst (λ (g : List ℕ). differing 1 (lines g) (lines text) ≡ Some (line_behind (take at text)))
+          (sym (append-nil (take at text))) (short_differs text at lt);
       behind = λ some rest. absurd (false_true some);
     }
 differs_by text at (Some b) faults h other =
     record {
-      here = subst (λ (g : List ℕ). differing 1 (lines g) (lines text) ≡ Some (line_behind (take at text))) (append-nil (take at text ++ b ∷ [])) (wrong_differs text at b [] (h.other b refl));
+      here = subst (λ (g : List ℕ). differing 1 (lines g) (lines text) ≡ Some (line_behind (take at text)))
+          (append-nil (take at text ++ b ∷ [])) (wrong_differs text at b [] (h.other b refl));
       behind = λ some rest. wrong_differs text at b rest (h.other b refl);
     }
 
@@ -176,4 +187,5 @@ pub differs_at : (m : Matched) → IsMatched m → (m.wrong ≡ None → m.at �
 differs_at m h other = differs_by m.text m.at m.wrong m.faults h other
 
 pub all_given : (m : Matched) → m.wrong ≡ None → m.at ≡ length m.text → DiffersAs m None
-all_given m none all = (ap (λ (o : Option ℕ). take m.at m.text ++ byte_of o) none ∙ append-nil (take m.at m.text) ∙ take_all m.at m.text (omega arith), none)
+all_given m none all =
+    (ap (λ (o : Option ℕ). take m.at m.text ++ byte_of o) none ∙ append-nil (take m.at m.text) ∙ take_all m.at m.text (omega arith), none)

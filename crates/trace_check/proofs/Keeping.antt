@@ -34,7 +34,8 @@ no_room m kept all h le =
     let len : length kept.list ≡ length (take m all) = ap length h.list in
     omega (arith, length-take m all)
 
-one_more : (m : ℕ) (kept : KeptChoices) (all : List Choice) (c : Choice) → Firsts m kept all → length kept.list < m → Firsts m (record kept { list = kept.list ++ c ∷ [] }) (all ++ c ∷ [])
+one_more : (m : ℕ) (kept : KeptChoices) (all : List Choice) (c : Choice) → Firsts m kept all → length kept.list < m
+    → Firsts m (record kept { list = kept.list ++ c ∷ [] }) (all ++ c ∷ [])
 one_more m kept all c h lt =
     let room = room_left m kept all h lt in
     let whole : length (all ++ c ∷ []) ≤ m = omega (arith, length-append all (c ∷ [])) in
@@ -43,7 +44,8 @@ one_more m kept all c h lt =
       more = h.more ∙ le-ltb m (length all) (omega arith) ∙ sym (le-ltb m (length (all ++ c ∷ [])) whole);
     }
 
-none_more : (m : ℕ) (kept : KeptChoices) (all : List Choice) (c : Choice) → Firsts m kept all → m ≤ length kept.list → Firsts m (record kept { more = true }) (all ++ c ∷ [])
+none_more : (m : ℕ) (kept : KeptChoices) (all : List Choice) (c : Choice) → Firsts m kept all → m ≤ length kept.list
+    → Firsts m (record kept { more = true }) (all ++ c ∷ [])
 none_more m kept all c h le =
     let full = no_room m kept all h le in
     record {
@@ -69,7 +71,8 @@ kept_on old new notes note kept full h =
       | inr le ↦ rw (full le) (none_more most_choices old (choices_of notes) (choice_of note) was le)
     ]))
 
-pub all_told : (kept : KeptChoices) (notes : List Note) → AreKept kept notes → kept.more ≡ false → (length notes ≤ most_choices) × (kept.list ≡ choices_of notes)
+pub all_told : (kept : KeptChoices) (notes : List Note) → AreKept kept notes → kept.more ≡ false → (length notes ≤ most_choices)
+    × (kept.list ≡ choices_of notes)
 all_told kept notes h e =
     let all = all_of most_choices kept (choices_of notes) (firsts kept notes h) e in
     let len : length (choices_of notes) ≡ length notes = length-map notes choice_of in

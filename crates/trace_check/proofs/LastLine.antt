@@ -23,7 +23,8 @@ take_on b rest is =
     let one : 1 + p ≡ suc p = omega arith in
     ap (λ (x : Bool). take (cond x (1 + p) 0) (b ∷ rest)) is ∙ ap (λ (k : ℕ). take k (b ∷ rest)) one
 
-pub number_on : (n b : ℕ) (rest : List ℕ) → is_ascii_digit b ≡ true → decimal_after n (take_while is_ascii_digit (b ∷ rest)) ≡ decimal_after (10 * n + (b - 48)) (take_while is_ascii_digit rest)
+pub number_on : (n b : ℕ) (rest : List ℕ) → is_ascii_digit b ≡ true → decimal_after n (take_while is_ascii_digit (b ∷ rest)) ≡ decimal_after
+    (10 * n + (b - 48)) (take_while is_ascii_digit rest)
 number_on n b rest is = ap (decimal_after n) (take_on b rest is)
 
 pub number_ends : (n b : ℕ) (rest : List ℕ) → is_ascii_digit b ≡ false → decimal_after n (take_while is_ascii_digit (b ∷ rest)) ≡ n
@@ -37,11 +38,14 @@ grows n (b ∷ word) = omega (arith, grows (10 * n + (b - 48)) word)
 abbrev pub left_of : ℕ → ℕ → List ℕ → ℕ
 left_of n i text = decimal_after n (take_while is_ascii_digit (drop i text))
 
-pub left_on : (n i : ℕ) (text : List ℕ) → i < length text → is_ascii_digit (get_or text i 0) ≡ true → left_of n i text ≡ left_of (10 * n + (get_or text i 0 - 48)) (i + 1) text
-left_on n i text lt is = ap (λ (l : List ℕ). decimal_after n (take_while is_ascii_digit l)) (drop_more text i 0 lt) ∙ number_on n (get_or text i 0) (drop (i + 1) text) is
+pub left_on : (n i : ℕ) (text : List ℕ) → i < length text → is_ascii_digit (get_or text i 0) ≡ true
+    → left_of n i text ≡ left_of (10 * n + (get_or text i 0 - 48)) (i + 1) text
+left_on n i text lt is = ap (λ (l : List ℕ). decimal_after n (take_while is_ascii_digit l)) (drop_more text i 0 lt)
+    ∙ number_on n (get_or text i 0) (drop (i + 1) text) is
 
 pub left_ends : (n i : ℕ) (text : List ℕ) → i < length text → is_ascii_digit (get_or text i 0) ≡ false → left_of n i text ≡ n
-left_ends n i text lt is = ap (λ (l : List ℕ). decimal_after n (take_while is_ascii_digit l)) (drop_more text i 0 lt) ∙ number_ends n (get_or text i 0) (drop (i + 1) text) is
+left_ends n i text lt is = ap (λ (l : List ℕ). decimal_after n (take_while is_ascii_digit l)) (drop_more text i 0 lt)
+    ∙ number_ends n (get_or text i 0) (drop (i + 1) text) is
 
 pub left_none : (n i : ℕ) (text : List ℕ) → length text ≤ i → left_of n i text ≡ n
 left_none n i text le = ap (λ (l : List ℕ). decimal_after n (take_while is_ascii_digit l)) (drop_all i text le)
@@ -73,7 +77,8 @@ abbrev has_more : List ℕ → Bool
 has_more [] = false
 has_more (r ∷ rest) = true
 
-place_on : (o : Option ℕ) (at start b : ℕ) (rest : List ℕ) → place_of (first_or o b rest) at start ≡ place_of o (at + 1) (here_of (b == 10) (has_more rest) at start)
+place_on : (o : Option ℕ) (at start b : ℕ) (rest : List ℕ) → place_of (first_or o b rest) at start ≡ place_of o (at + 1)
+    (here_of (b == 10) (has_more rest) at start)
 place_on (Some p) at start b rest = omega arith
 place_on None at start b [] = by (b == 10)
   where
@@ -94,10 +99,13 @@ more_there : (i : ℕ) (text : List ℕ) → has_more (drop (i + 1) text) ≡ na
 more_there i text = by (drop (i + 1) text) refl
   where
     by : (rest : List ℕ) → drop (i + 1) text ≡ rest → has_more rest ≡ nat_lt (i + 1) (length text)
-    by [] is = let len : length (drop (i + 1) text) ≡ 0 = ap length is in sym (le-ltb (i + 1) (length text) (omega (arith, len, length-drop (i + 1) text)))
-    by (r ∷ rest) is = let len : length (drop (i + 1) text) ≡ suc (length rest) = ap length is in sym (lt-ltb (i + 1) (length text) (omega (arith, len, length-drop (i + 1) text)))
+    by [] is = let len : length (drop (i + 1) text) ≡ 0 =
+        ap length is in sym (le-ltb (i + 1) (length text) (omega (arith, len, length-drop (i + 1) text)))
+    by (r ∷ rest) is = let len : length (drop (i + 1) text) ≡ suc (length rest) =
+        ap length is in sym (lt-ltb (i + 1) (length text) (omega (arith, len, length-drop (i + 1) text)))
 
-pub ends_on : (i start : ℕ) (text : List ℕ) → i < length text → ends_at i start text ≡ ends_at (i + 1) (here_of (get_or text i 0 == 10) (nat_lt (i + 1) (length text)) i start) text
+pub ends_on : (i start : ℕ) (text : List ℕ) → i < length text
+    → ends_at i start text ≡ ends_at (i + 1) (here_of (get_or text i 0 == 10) (nat_lt (i + 1) (length text)) i start) text
 ends_on i start text lt =
     ap (λ (l : List ℕ). place_of (cut l) i start) (drop_more text i 0 lt)
     ∙ place_on (cut (drop (i + 1) text)) i start (get_or text i 0) (drop (i + 1) text)
@@ -111,11 +119,14 @@ ends_none i start text le = ap (λ (l : List ℕ). place_of (cut l) i start) (dr
 -- no number is reported, one that is too large, or the stop by it
 pub none_by : (n : ℕ) (line : List ℕ) → n < steps_told line → stop_told n line ≡ None
 unfolding stop_told
-none_by n line lt = ap (λ (b : Bool). cond b (find (λ stop. bytes_eq line (end_line (steps_told line) (Stopped stop))) monitor_stops) None) (lt-leb (steps_told line) n lt)
+none_by n line lt = ap (λ (b : Bool). cond b (find (λ stop. bytes_eq line (end_line (steps_told line) (Stopped stop))) monitor_stops) None)
+    (lt-leb (steps_told line) n lt)
 
-pub stop_by : (n : ℕ) (line : List ℕ) → steps_told line ≤ n → stop_told n line ≡ find (λ stop. bytes_eq line (end_line (steps_told line) (Stopped stop))) monitor_stops
+pub stop_by : (n : ℕ) (line : List ℕ) → steps_told line ≤ n
+    → stop_told n line ≡ find (λ stop. bytes_eq line (end_line (steps_told line) (Stopped stop))) monitor_stops
 unfolding stop_told
-stop_by n line le = ap (λ (b : Bool). cond b (find (λ stop. bytes_eq line (end_line (steps_told line) (Stopped stop))) monitor_stops) None) (le-leb (steps_told line) n le)
+stop_by n line le = ap (λ (b : Bool). cond b (find (λ stop. bytes_eq line (end_line (steps_told line) (Stopped stop))) monitor_stops) None)
+    (le-leb (steps_told line) n le)
 
 abbrev no_stop : Option Stop
 no_stop = None
@@ -175,7 +186,8 @@ record Last (text : List ℕ) (xs : List (List ℕ)) (at : ℕ) : Type 0 where
   count : length xs ≡ line_behind (take at text)
 
 -- a line ends before such a text
-on_end : (b at : ℕ) (text l : List ℕ) (ls : List (List ℕ)) → (b == 10) ≡ true → Last text (l ∷ ls) at → Last (b ∷ text) ((b ∷ []) ∷ l ∷ ls) (suc at)
+on_end : (b at : ℕ) (text l : List ℕ) (ls : List (List ℕ)) → (b == 10) ≡ true → Last text (l ∷ ls) at
+    → Last (b ∷ text) ((b ∷ []) ∷ l ∷ ls) (suc at)
 on_end b at text l ls e h = record {
   within = omega (arith, h.within);
   last = h.last;
@@ -187,7 +199,8 @@ on_end b at text l ls e h = record {
     plus_one n = omega arith
 
 -- a byte stands before the first of several lines
-on_mid : (b at : ℕ) (text l m : List ℕ) (ls : List (List ℕ)) → (b == 10) ≡ false → Last text (l ∷ m ∷ ls) at → Last (b ∷ text) ((b ∷ l) ∷ m ∷ ls) (suc at)
+on_mid : (b at : ℕ) (text l m : List ℕ) (ls : List (List ℕ)) → (b == 10) ≡ false → Last text (l ∷ m ∷ ls) at
+    → Last (b ∷ text) ((b ∷ l) ∷ m ∷ ls) (suc at)
 on_mid b at text l m ls e h = record {
   within = omega (arith, h.within);
   last = h.last;
@@ -215,22 +228,28 @@ record IsCut (text : List ℕ) (o : Option ℕ) : Type 0 where
   last : Last text (lines text) (place_of o 0 0)
 
 same_cut : (text : List ℕ) (xs : List (List ℕ)) (o : Option ℕ) → lines text ≡ xs → Fits o xs → Last text xs (place_of o 0 0) → IsCut text o
-same_cut text xs o is fits last = record { fits = subst (Fits o) (sym is) fits; last = subst (λ (x : List (List ℕ)). Last text x (place_of o 0 0)) (sym is) last }
+same_cut text xs o is fits last =
+    record { fits = subst (Fits o) (sym is) fits; last = subst (λ (x : List (List ℕ)). Last text x (place_of o 0 0)) (sym is) last }
 
-to_place : (text : List ℕ) (xs : List (List ℕ)) (o : Option ℕ) (at : ℕ) → place_of o 0 0 ≡ at → Last text xs at → Last text xs (place_of o 0 0)
+to_place : (text : List ℕ) (xs : List (List ℕ)) (o : Option ℕ) (at : ℕ) → place_of o 0 0 ≡ at → Last text xs at
+    → Last text xs (place_of o 0 0)
 to_place text xs o at is h = subst (Last text xs) (sym is) h
 
 cut_one : (b : ℕ) → IsCut (b ∷ []) (cut (b ∷ []))
 cut_one b = same_cut (b ∷ []) ((b ∷ []) ∷ []) None (lines_one b) refl (on_only b 0 [] [] refl)
 
-cut_more : (e : Bool) (b r : ℕ) (rest : List ℕ) (xs : List (List ℕ)) (o : Option ℕ) → (b == 10) ≡ e → lines (r ∷ rest) ≡ xs → Fits o xs → Last (r ∷ rest) xs (place_of o 0 0) → IsCut (b ∷ r ∷ rest) (first_or o b (r ∷ rest))
+cut_more : (e : Bool) (b r : ℕ) (rest : List ℕ) (xs : List (List ℕ)) (o : Option ℕ) → (b == 10) ≡ e → lines (r ∷ rest) ≡ xs → Fits o xs
+    → Last (r ∷ rest) xs (place_of o 0 0) → IsCut (b ∷ r ∷ rest) (first_or o b (r ∷ rest))
 cut_more e b r rest [] o is all fits h = absurd fits
 cut_more true b r rest (l ∷ []) None is all fits h =
     let to : first_or None b (r ∷ rest) ≡ Some 1 = ap (λ (x : Bool). cond x (Some 1) None) is in
-    subst (IsCut (b ∷ r ∷ rest)) (sym to) (same_cut (b ∷ r ∷ rest) ((b ∷ []) ∷ l ∷ []) (Some 1) (lines_end b (r ∷ rest) is ∙ ap (λ (x : List (List ℕ)). (b ∷ []) ∷ x) all) (1, refl) (on_end b 0 (r ∷ rest) l [] is h))
+    subst (IsCut (b ∷ r ∷ rest)) (sym to)
+    (same_cut (b ∷ r ∷ rest) ((b ∷ []) ∷ l ∷ []) (Some 1) (lines_end b (r ∷ rest) is ∙ ap (λ (x : List (List ℕ)). (b ∷ []) ∷ x) all)
+    (1, refl) (on_end b 0 (r ∷ rest) l [] is h))
 cut_more false b r rest (l ∷ []) None is all fits h =
     let to : first_or None b (r ∷ rest) ≡ None = ap (λ (x : Bool). cond x (Some 1) None) is in
-    subst (IsCut (b ∷ r ∷ rest)) (sym to) (same_cut (b ∷ r ∷ rest) ((b ∷ l) ∷ []) None (lines_mid b (r ∷ rest) is ∙ ap (begun_by b) all) refl (on_only b 0 (r ∷ rest) l h.last))
+    subst (IsCut (b ∷ r ∷ rest)) (sym to) (same_cut (b ∷ r ∷ rest) ((b ∷ l) ∷ []) None (lines_mid b (r ∷ rest) is ∙ ap (begun_by b) all)
+    refl (on_only b 0 (r ∷ rest) l h.last))
 cut_more e b r rest (l ∷ []) (Some p) is all fits h = absurd (some_none p fits)
   where
     some_none : (k : ℕ) → Some k ≡ None → ⊥
@@ -240,8 +259,10 @@ cut_more e b r rest (l ∷ m ∷ ls) None is all fits h = absurd (none_some_at f
     none_some_at : (k : ℕ) → None ≡ Some k → ⊥
     none_some_at k f = cc
 cut_more true b r rest (l ∷ m ∷ ls) (Some p) is all fits h =
-    same_cut (b ∷ r ∷ rest) ((b ∷ []) ∷ l ∷ m ∷ ls) (Some (p + 1)) (lines_end b (r ∷ rest) is ∙ ap (λ (x : List (List ℕ)). (b ∷ []) ∷ x) all) (p + 1, refl)
-    (to_place (b ∷ r ∷ rest) ((b ∷ []) ∷ l ∷ m ∷ ls) (Some (p + 1)) (suc (0 + p)) (omega arith) (on_end b (0 + p) (r ∷ rest) l (m ∷ ls) is h))
+    same_cut (b ∷ r ∷ rest) ((b ∷ []) ∷ l ∷ m ∷ ls) (Some (p + 1))
+    (lines_end b (r ∷ rest) is ∙ ap (λ (x : List (List ℕ)). (b ∷ []) ∷ x) all) (p + 1, refl)
+    (to_place (b ∷ r ∷ rest) ((b ∷ []) ∷ l ∷ m ∷ ls) (Some (p + 1)) (suc (0 + p)) (omega arith)
+    (on_end b (0 + p) (r ∷ rest) l (m ∷ ls) is h))
 cut_more false b r rest (l ∷ m ∷ ls) (Some p) is all fits h =
     same_cut (b ∷ r ∷ rest) ((b ∷ l) ∷ m ∷ ls) (Some (p + 1)) (lines_mid b (r ∷ rest) is ∙ ap (begun_by b) all) (p + 1, refl)
     (to_place (b ∷ r ∷ rest) ((b ∷ l) ∷ m ∷ ls) (Some (p + 1)) (suc (0 + p)) (omega arith) (on_mid b (0 + p) (r ∷ rest) l m ls is h))

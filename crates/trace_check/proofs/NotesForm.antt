@@ -21,7 +21,8 @@ first_of P note notes h = h 0 note (omega arith)
 pub later_of : (P : Note → Type 0) (note : Note) (notes : List Note) → All P (note ∷ notes) → All P notes
 later_of P note notes h = λ k d lt. h (suc k) d (omega (arith, lt))
 
-are_from : (low last : ℕ) (notes : List Note) → last < 2 ^ 64 → is_ordered low notes ≡ true → All (λ note. step_in note ≤ last) notes → All IsPage notes → AreFrom low (choices_of notes)
+are_from : (low last : ℕ) (notes : List Note) → last < 2 ^ 64 → is_ordered low notes ≡ true → All (λ note. step_in note ≤ last) notes
+    → All IsPage notes → AreFrom low (choices_of notes)
 are_from low last [] lt ordered until pages = tt
 are_from low last (emptied_at step ∷ notes) lt ordered until pages =
     let h = and_parts (nat_le low step) (is_ordered step notes) ordered in
@@ -29,7 +30,8 @@ are_from low last (emptied_at step ∷ notes) lt ordered until pages =
       leb-true low step h.0,
       omega (arith, at, lt),
       refl,
-      are_from step last notes lt h.1 (later_of (λ note. step_in note ≤ last) (emptied_at step) notes until) (later_of IsPage (emptied_at step) notes pages),
+      are_from step last notes lt h.1 (later_of (λ note. step_in note ≤ last) (emptied_at step) notes until)
+          (later_of IsPage (emptied_at step) notes pages),
     )
 are_from low last (dropped_at step page ∷ notes) lt ordered until pages =
     let h = and_parts (nat_le low step) (is_ordered step notes) ordered in
@@ -37,7 +39,8 @@ are_from low last (dropped_at step page ∷ notes) lt ordered until pages =
       leb-true low step h.0,
       omega (arith, at, lt),
       first_of IsPage (dropped_at step page) notes pages,
-      are_from step last notes lt h.1 (later_of (λ note. step_in note ≤ last) (dropped_at step page) notes until) (later_of IsPage (dropped_at step page) notes pages),
+      are_from step last notes lt h.1 (later_of (λ note. step_in note ≤ last) (dropped_at step page) notes until)
+          (later_of IsPage (dropped_at step page) notes pages),
     )
 
 lower : (a b : ℕ) (list : List Choice) → a ≤ b → AreFrom b list → AreFrom a list

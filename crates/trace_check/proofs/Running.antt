@@ -46,13 +46,15 @@ use Rattle.trace_check.proofs.Comparing.{bytes_true}
 
 -- ---- what choices make is loosened
 
-by_walk : (s : Setting) (b : State) (page : ℕ) (e : Entry) (w : Walk) → page < 2 ^ 20 → fresh b.ram s.frames b.cpu.cr3 (pse_of b.cpu) page ≡ w → usable b.ram w ≡ Some e → IsCacheable s b page e
+by_walk : (s : Setting) (b : State) (page : ℕ) (e : Entry) (w : Walk) → page < 2 ^ 20 → fresh b.ram s.frames b.cpu.cr3 (pse_of b.cpu) page
+    ≡ w → usable b.ram w ≡ Some e → IsCacheable s b page e
 by_walk s b page e Absent small is h = absurd (none-some e h)
 by_walk s b page e Beyond small is h = absurd (none-some e h)
 by_walk s b page e Reserved small is h = absurd (none-some e h)
 by_walk s b page e (Found entry dir_at word_at) small is h = by (has (word32 b.ram dir_at) 0x20 && has (word32 b.ram word_at) 0x20) refl h
   where
-    by : (t : Bool) → (has (word32 b.ram dir_at) 0x20 && has (word32 b.ram word_at) 0x20) ≡ t → cond t (Some entry) None ≡ Some e → IsCacheable s b page e
+    by : (t : Bool) → (has (word32 b.ram dir_at) 0x20 && has (word32 b.ram word_at) 0x20) ≡ t → cond t (Some entry) None ≡ Some e
+        → IsCacheable s b page e
     by true flags same =
         let at : entry ≡ e = cc in
         record {
@@ -77,7 +79,8 @@ removed_allowed s b page set h = record {
 none_allowed : (s : Setting) (b : State) → Loosened s b empty
 none_allowed s b = record { each = λ q e found. absurd (none-some e (sym (get-empty nat_cmp q) ∙ found)) }
 
-added_allowed : (s : Setting) (b : State) (page : ℕ) (x : Entry) (set : Set) → IsCacheable s b page x → Loosened s b set → Loosened s b (insert set page x)
+added_allowed : (s : Setting) (b : State) (page : ℕ) (x : Entry) (set : Set) → IsCacheable s b page x → Loosened s b set
+    → Loosened s b (insert set page x)
 added_allowed s b page x set good h = record {
   each = λ q e found. elim (eqb_tells q page) [
     | inl t ↦
@@ -91,17 +94,20 @@ added_allowed s b page x set good h = record {
 by_page : (s : Setting) (b : State) (page : ℕ) (e : Entry) → addable s b page ≡ Some e → IsCacheable s b page e
 by_page s b page e is = by (nat_lt page (2 ^ 20)) refl is
   where
-    by : (t : Bool) → nat_lt page (2 ^ 20) ≡ t → cond t (usable b.ram (fresh b.ram s.frames b.cpu.cr3 (pse_of b.cpu) page)) None ≡ Some e → IsCacheable s b page e
+    by : (t : Bool) → nat_lt page (2 ^ 20) ≡ t → cond t (usable b.ram (fresh b.ram s.frames b.cpu.cr3 (pse_of b.cpu) page)) None ≡ Some e
+        → IsCacheable s b page e
     by true small found = by_walk s b page e (fresh b.ram s.frames b.cpu.cr3 (pse_of b.cpu) page) (ltb-true page (2 ^ 20) small) refl found
     by false beyond found = absurd (none-some e found)
 
-by_entry : (s : Setting) (b : State) (page : ℕ) (set new : Set) (o : Option Entry) → addable s b page ≡ o → option_map (λ entry. insert set page entry) o ≡ Some new → Loosened s b set → Loosened s b new
+by_entry : (s : Setting) (b : State) (page : ℕ) (set new : Set) (o : Option Entry) → addable s b page ≡ o
+    → option_map (λ entry. insert set page entry) o ≡ Some new → Loosened s b set → Loosened s b new
 by_entry s b page set new None is h allowed = absurd cc
 by_entry s b page set new (Some x) is h allowed =
     let to : insert set page x ≡ new = cc in
     subst (Loosened s b) to (added_allowed s b page x set (by_page s b page x is) allowed)
 
-made_allowed : (s : Setting) (b : State) (kind : ChoiceKind) (page : ℕ) (set new : Set) → made s b kind page set ≡ Some new → Loosened s b set → Loosened s b new
+made_allowed : (s : Setting) (b : State) (kind : ChoiceKind) (page : ℕ) (set new : Set) → made s b kind page set ≡ Some new
+    → Loosened s b set → Loosened s b new
 made_allowed s b Drop page set new is h = let to : remove set page ≡ new = cc in subst (Loosened s b) to (removed_allowed s b page set h)
 made_allowed s b Empty page set new is h = let to : empty ≡ new = cc in subst (Loosened s b) to (none_allowed s b)
 made_allowed s b Add page set new is h = by_entry s b page set new (addable s b page) refl is h
@@ -118,16 +124,20 @@ ok_inner a b h = cc
 not_ok : (at : ℕ) (b : Set) → err_of at ≡ ok_of b → ⊥
 not_ok at b h = cc
 
-chosen_allowed : (s : Setting) (b : State) (list : List Choice) (at : ℕ) (set new : Set) → chosen s b at list set ≡ Ok new → Loosened s b set → Loosened s b new
+chosen_allowed : (s : Setting) (b : State) (list : List Choice) (at : ℕ) (set new : Set) → chosen s b at list set ≡ Ok new
+    → Loosened s b set → Loosened s b new
 unfolding chosen
 chosen_allowed s b [] at set new is h = subst (Loosened s b) (ok_inner set new is) h
 chosen_allowed s b (c ∷ rest) at set new is h = by (λ x f k. chosen_allowed s b rest (at + 1) x new f k) (c.step == b.step) is
   where
-    this : ((x : Set) → chosen s b (at + 1) rest x ≡ Ok new → Loosened s b x → Loosened s b new) → (o : Option Set) → made s b c.kind c.page set ≡ o → after_made at o (λ x. chosen s b (at + 1) rest x) ≡ Ok new → Loosened s b new
+    this : ((x : Set) → chosen s b (at + 1) rest x ≡ Ok new → Loosened s b x → Loosened s b new) → (o : Option Set)
+        → made s b c.kind c.page set ≡ o → after_made at o (λ x. chosen s b (at + 1) rest x) ≡ Ok new → Loosened s b new
     this later None e f = absurd (not_ok at new f)
     this later (Some x) e f = later x f (made_allowed s b c.kind c.page set x e h)
 
-    by : ((x : Set) → chosen s b (at + 1) rest x ≡ Ok new → Loosened s b x → Loosened s b new) → (t : Bool) → cond t (after_made at (made s b c.kind c.page set) (λ x. chosen s b (at + 1) rest x)) (chosen s b (at + 1) rest set) ≡ Ok new → Loosened s b new
+    by : ((x : Set) → chosen s b (at + 1) rest x ≡ Ok new → Loosened s b x → Loosened s b new) → (t : Bool)
+        → cond t (after_made at (made s b c.kind c.page set) (λ x. chosen s b (at + 1) rest x)) (chosen s b (at + 1) rest set) ≡ Ok
+        new → Loosened s b new
     by later true e = this later (made s b c.kind c.page set) refl e
     by later false e = later set e h
 
@@ -153,11 +163,14 @@ record IsRun (s : Setting) (list : List Choice) (n : ℕ) (b : State) (c : Cours
   are_chosen : AreChosen s list b sets
   stops : StopsChosen s list last c.end
 
-no_steps : (s : Setting) (list : List Choice) (n : ℕ) (b : State) (c : Course) → c.reports ≡ [] → c.count ≡ b.step → EndsBy s n b c.end → StopsChosen s list b c.end → IsRun s list n b c
+no_steps : (s : Setting) (list : List Choice) (n : ℕ) (b : State) (c : Course) → c.reports ≡ [] → c.count ≡ b.step → EndsBy s n b c.end
+    → StopsChosen s list b c.end → IsRun s list n b c
 unfolding Steps
-no_steps s list n b c none count ends stops = record { sets = []; last = b; run = (none, refl); count_is = count; ends = ends; are_chosen = tt; stops = stops }
+no_steps s list n b c none count ends stops =
+    record { sets = []; last = b; run = (none, refl); count_is = count; ends = ends; are_chosen = tt; stops = stops }
 
-one_step : (s : Setting) (list : List Choice) (n : ℕ) (b mid : State) (set : Set) (now : Report) (c : Course) → chosen s b 0 list b.set ≡ Ok set → Loosened s b set → step_of s b set ≡ Went now mid → IsRun s list n mid c
+one_step : (s : Setting) (list : List Choice) (n : ℕ) (b mid : State) (set : Set) (now : Report) (c : Course)
+    → chosen s b 0 list b.set ≡ Ok set → Loosened s b set → step_of s b set ≡ Went now mid → IsRun s list n mid c
     → IsRun s list n b (record { reports = now ∷ c.reports; count = c.count; end = c.end })
 unfolding Steps
 one_step s list n b mid set now c choices allowed is h = record {
@@ -166,7 +179,11 @@ one_step s list n b mid set now c choices allowed is h = record {
   run = (mid, now, c.reports, allowed, is, h.run, refl);
   count_is = h.count_is;
   ends = h.ends;
-  are_chosen = (choices, λ other there to. subst (λ (x : State). AreChosen s list x h.sets) (went_there now other mid there (sym is ∙ to)) h.are_chosen);
+  are_chosen = (
+    choices,
+    λ other there to. subst (λ (x : State). AreChosen s list x h.sets)
+        (went_there now other mid there (sym is ∙ to)) h.are_chosen,
+  );
   stops = h.stops;
 }
 
@@ -175,13 +192,17 @@ unfolding course
 courses_run zero s list n b at = no_steps s list n b _ refl refl (omega (arith, at)) tt
 courses_run (suc k) s list n b at = by (λ mid to. courses_run k s list n mid to) (chosen s b 0 list b.set) refl
   where
-    went : ((mid : State) → mid.step + k ≡ n → IsRun s list n mid (course s list k mid)) → (set : Set) (r : steps.Result) → chosen s b 0 list b.set ≡ Ok set → Loosened s b set → step_of s b set ≡ r → IsRun s list n b (after_step b.step r (λ mid. course s list k mid))
+    went : ((mid : State) → mid.step + k ≡ n → IsRun s list n mid (course s list k mid)) → (set : Set) (r : steps.Result)
+        → chosen s b 0 list b.set ≡ Ok set → Loosened s b set → step_of s b set ≡ r
+        → IsRun s list n b (after_step b.step r (λ mid. course s list k mid))
     went later set (Went now mid) choices allowed is =
         let count = counted_by s b mid set now is in
         one_step s list n b mid set now (course s list k mid) choices allowed is (later mid (omega (arith, at, count)))
-    went later set (Halts stop) choices allowed is = no_steps s list n b _ refl refl (omega (arith, at), record { set = set; allowed = allowed; halts = is }) (set, choices, is)
+    went later set (Halts stop) choices allowed is =
+        no_steps s list n b _ refl refl (omega (arith, at), record { set = set; allowed = allowed; halts = is }) (set, choices, is)
 
-    by : ((mid : State) → mid.step + k ≡ n → IsRun s list n mid (course s list k mid)) → (r : Result Set ℕ) → chosen s b 0 list b.set ≡ r → IsRun s list n b (after_choices s b r (λ mid. course s list k mid))
+    by : ((mid : State) → mid.step + k ≡ n → IsRun s list n mid (course s list k mid)) → (r : Result Set ℕ) → chosen s b 0 list b.set ≡ r
+        → IsRun s list n b (after_choices s b r (λ mid. course s list k mid))
     by later (Err bad) is = no_steps s list n b _ refl refl tt tt
     by later (Ok set) is = went later set (step_of s b set) is (chosen_allowed s b list 0 b.set set is (left_allowed s b)) refl
 
@@ -215,7 +236,8 @@ none_same n [] (y ∷ ys) h = absurd (no_line n h)
 none_same n (x ∷ xs) [] h = absurd (no_line n h)
 none_same n (x ∷ xs) (y ∷ ys) h = by (λ f. none_same (n + 1) xs ys f) (bytes_eq x y) refl h
   where
-    by : (differing (n + 1) xs ys ≡ None → xs ≡ ys) → (e : Bool) → bytes_eq x y ≡ e → cond e (differing (n + 1) xs ys) (Some n) ≡ None → x ∷ xs ≡ y ∷ ys
+    by : (differing (n + 1) xs ys ≡ None → xs ≡ ys) → (e : Bool) → bytes_eq x y ≡ e
+        → cond e (differing (n + 1) xs ys) (Some n) ≡ None → x ∷ xs ≡ y ∷ ys
     by later true same rest = ap (λ (l : List ℕ). l ∷ xs) (bytes_true x y same) ∙ ap (λ (ls : List (List ℕ)). y ∷ ls) (later rest)
     by later false same rest = absurd (no_line n rest)
 
@@ -230,12 +252,15 @@ bad_yes at h = cc
 differs_yes : (line : ℕ) → Differs line ≡ Yes → ⊥
 differs_yes line h = cc
 
-whole_is_run : (image : Image) (script : Events) (frames n : ℕ) (list : List Choice) (text : List ℕ) (c : Course) (e : CourseEnd) → c.end ≡ e → IsRun (bare image script frames) list n (boot (bare image script frames)) c → judged_whole text c e ≡ Yes
+whole_is_run : (image : Image) (script : Events) (frames n : ℕ) (list : List Choice) (text : List ℕ) (c : Course) (e : CourseEnd)
+    → c.end ≡ e → IsRun (bare image script frames) list n (boot (bare image script frames)) c → judged_whole text c e ≡ Yes
     → IsRunText image script frames n list text
 whole_is_run image script frames n list text c (BadAt at) is h given = absurd (bad_yes at given)
-whole_is_run image script frames n list text c (Ended end) is h given = by (differing 1 (lines (text_of (trace_of c.reports) c.count end)) (lines text)) refl given
+whole_is_run image script frames n list text c (Ended end) is h given =
+    by (differing 1 (lines (text_of (trace_of c.reports) c.count end)) (lines text)) refl given
   where
-    by : (o : Option ℕ) → differing 1 (lines (text_of (trace_of c.reports) c.count end)) (lines text) ≡ o → unless_differs o Yes ≡ Yes → IsRunText image script frames n list text
+    by : (o : Option ℕ) → differing 1 (lines (text_of (trace_of c.reports) c.count end)) (lines text) ≡ o → unless_differs o Yes ≡ Yes
+        → IsRunText image script frames n list text
     by None e y = record {
       count = c.count;
       end = end;
@@ -267,8 +292,12 @@ unfolding judged
 yes_is_a_run image script frames n list text given = by (stop_told n (last_of (lines text))) given
   where
     by : (o : Option Stop) → judged_by image script frames n list text o ≡ Yes → IsRunText image script frames n list text
-    by None y = whole_is_run image script frames n list text (course_of image script frames n list) (course_of image script frames n list).end refl (courses_run n (bare image script frames) list n (boot (bare image script frames)) (omega arith)) y
-    by (Some stop) y = absurd (never stop text (course_of image script frames (steps_told (last_of (lines text))) list) (course_of image script frames (steps_told (last_of (lines text))) list).end y)
+    by None y = whole_is_run image script frames n list text (course_of image script frames n list)
+        (course_of image script frames n list).end refl
+        (courses_run n (bare image script frames) list n (boot (bare image script frames)) (omega arith)) y
+    by (Some stop) y =
+        absurd (never stop text (course_of image script frames (steps_told (last_of (lines text))) list)
+        (course_of image script frames (steps_told (last_of (lines text))) list).end y)
 
 -- ---- yes before a stop
 
@@ -282,11 +311,13 @@ stop_inner a b h = cc
 no_stop : (a : Stop) → None ≡ Some a → ⊥
 no_stop a h = cc
 
-found_stop : (p : Stop → Bool) (xs : List Stop) (stop : Stop) → AreOwn xs → find p xs ≡ Some stop → (p stop ≡ true) × (is_extra_stop stop ≡ true)
+found_stop : (p : Stop → Bool) (xs : List Stop) (stop : Stop) → AreOwn xs → find p xs ≡ Some stop → (p stop ≡ true)
+    × (is_extra_stop stop ≡ true)
 found_stop p [] stop own h = absurd (no_stop stop h)
 found_stop p (x ∷ xs) stop own h = by (λ f. found_stop p xs stop own.1 f) (p x) refl h
   where
-    by : (find p xs ≡ Some stop → (p stop ≡ true) × (is_extra_stop stop ≡ true)) → (t : Bool) → p x ≡ t → cond t (Some x) (find p xs) ≡ Some stop → (p stop ≡ true) × (is_extra_stop stop ≡ true)
+    by : (find p xs ≡ Some stop → (p stop ≡ true) × (is_extra_stop stop ≡ true)) → (t : Bool) → p x ≡ t
+        → cond t (Some x) (find p xs) ≡ Some stop → (p stop ≡ true) × (is_extra_stop stop ≡ true)
     by later true e f = let same : x ≡ stop = stop_inner x stop f in (ap p (sym same) ∙ e, ap is_extra_stop (sym same) ∙ own.0)
     by later false e f = later f
 
@@ -299,24 +330,33 @@ told_is : (n : ℕ) (line : List ℕ) (stop : Stop) → stop_told n line ≡ Som
 unfolding stop_told
 told_is n line stop h = by (nat_le (steps_told line) n) refl h
   where
-    by : (t : Bool) → nat_le (steps_told line) n ≡ t → cond t (find (λ x. bytes_eq line (end_line (steps_told line) (Stopped x))) monitor_stops) None ≡ Some stop → ToldStop n line stop
+    by : (t : Bool) → nat_le (steps_told line) n ≡ t
+        → cond t (find (λ x. bytes_eq line (end_line (steps_told line) (Stopped x))) monitor_stops) None ≡ Some stop → ToldStop n line stop
     by true e f =
-        let is = found_stop (λ x. bytes_eq line (end_line (steps_told line) (Stopped x))) monitor_stops stop (refl, (refl, (refl, (refl, (refl, (refl, (refl, (refl, tt)))))))) f in
-        record { within = leb-true (steps_told line) n e; line_is = bytes_true line (end_line (steps_told line) (Stopped stop)) is.0; own = is.1 }
+        let is = found_stop (λ x. bytes_eq line (end_line (steps_told line) (Stopped x))) monitor_stops stop
+        (refl, (refl, (refl, (refl, (refl, (refl, (refl, (refl, tt)))))))) f in
+        record {
+          within = leb-true (steps_told line) n e;
+          line_is = bytes_true line (end_line (steps_told line) (Stopped stop)) is.0;
+          own = is.1;
+        }
     by false e f = absurd (no_stop stop f)
 
 joined_parts : (ls : List (List ℕ)) → joined ls ≡ joined (before_last ls) ++ last_of ls
 unfolding joined
 joined_parts [] = refl
 joined_parts (l ∷ []) = append-nil l
-joined_parts (l ∷ m ∷ ls) = ap (λ (x : List ℕ). l ++ x) (joined_parts (m ∷ ls)) ∙ sym (append_assoc l (joined (before_last (m ∷ ls))) (last_of (m ∷ ls)))
+joined_parts (l ∷ m ∷ ls) =
+    ap (λ (x : List ℕ). l ++ x) (joined_parts (m ∷ ls)) ∙ sym (append_assoc l (joined (before_last (m ∷ ls))) (last_of (m ∷ ls)))
 
 text_parts : (text front : List ℕ) → differing 1 (lines front) (before_last (lines text)) ≡ None → text ≡ front ++ last_of (lines text)
 text_parts text front h =
     sym (joined_lines text) ∙ joined_parts (lines text)
-    ∙ ap (λ (x : List ℕ). x ++ last_of (lines text)) (ap joined (sym (none_same 1 (lines front) (before_last (lines text)) h)) ∙ joined_lines front)
+    ∙ ap (λ (x : List ℕ). x ++ last_of (lines text))
+    (ap joined (sym (none_same 1 (lines front) (before_last (lines text)) h)) ∙ joined_lines front)
 
-line_whole : (front line : List ℕ) (steps : ℕ) (stop : Stop) (trace : List Item) → front ≡ lines_of trace → line ≡ end_line steps (Stopped stop) → front ++ line ≡ text_of trace steps (Stopped stop)
+line_whole : (front line : List ℕ) (steps : ℕ) (stop : Stop) (trace : List Item) → front ≡ lines_of trace
+    → line ≡ end_line steps (Stopped stop) → front ++ line ≡ text_of trace steps (Stopped stop)
 unfolding text_of
 line_whole front line steps stop trace is same = ap (λ (x : List ℕ). x ++ line) is ∙ ap (λ (x : List ℕ). lines_of trace ++ x) same
 
@@ -345,16 +385,20 @@ record RightBefore (stop told : Stop) (text : List ℕ) (c : Course) (e : Course
   end : e ≡ Ended Bound
   right : differing 1 (lines (lines_of (trace_of c.reports))) (before_last (lines text)) ≡ None
 
-right_before : (stop told : Stop) (text : List ℕ) (c : Course) (e : CourseEnd) → judged_before told text c e ≡ YesBefore stop → RightBefore stop told text c e
+right_before : (stop told : Stop) (text : List ℕ) (c : Course) (e : CourseEnd) → judged_before told text c e ≡ YesBefore stop
+    → RightBefore stop told text c e
 right_before stop told text c (BadAt at) y = absurd (bad_before at stop y)
 right_before stop told text c (Ended end) y = by (differing 1 (lines (lines_of (trace_of c.reports))) (before_last (lines text))) end refl y
   where
-    by : (o : Option ℕ) (x : End) → differing 1 (lines (lines_of (trace_of c.reports))) (before_last (lines text)) ≡ o → unless_differs o (judged_end told text x) ≡ YesBefore stop → RightBefore stop told text c (Ended x)
+    by : (o : Option ℕ) (x : End) → differing 1 (lines (lines_of (trace_of c.reports))) (before_last (lines text)) ≡ o
+        → unless_differs o (judged_end told text x) ≡ YesBefore stop → RightBefore stop told text c (Ended x)
     by (Some line) x is f = absurd (differs_before line stop f)
     by None Bound is f = record { same = inner_before told stop f; end = refl; right = is }
     by None (Stopped other) is f = absurd (differs_before (length (lines text)) stop f)
 
-before_is_steps : (image : Image) (script : Events) (frames n : ℕ) (list : List Choice) (stop told : Stop) (text : List ℕ) (c : Course) → stop_told n (last_of (lines text)) ≡ Some told → IsRun (bare image script frames) list (steps_told (last_of (lines text))) (boot (bare image script frames)) c
+before_is_steps : (image : Image) (script : Events) (frames n : ℕ) (list : List Choice) (stop told : Stop) (text : List ℕ) (c : Course)
+    → stop_told n (last_of (lines text)) ≡ Some told → IsRun (bare image script frames) list (steps_told (last_of (lines text)))
+    (boot (bare image script frames)) c
     → RightBefore stop told text c c.end → AreItemsBefore image script frames n list stop text
 before_is_steps image script frames n list stop told text c is h r =
     let line = last_of (lines text) in
@@ -368,16 +412,20 @@ before_is_steps image script frames n list stop told text c is h r =
       by_choices = h.are_chosen;
       within = omega (arith, at, t.within);
       own = t.own;
-      text_is = text_parts text (lines_of (trace_of c.reports)) r.right ∙ line_whole (lines_of (trace_of c.reports)) line h.last.step stop (trace_of c.reports) refl (t.line_is ∙ ap (λ (k : ℕ). end_line k (Stopped stop)) (sym at));
+      text_is = text_parts text (lines_of (trace_of c.reports)) r.right ∙ line_whole (lines_of (trace_of c.reports)) line h.last.step stop
+          (trace_of c.reports) refl (t.line_is ∙ ap (λ (k : ℕ). end_line k (Stopped stop)) (sym at));
     }
 
 pub yes_before_is_steps : YesBeforeIsSteps
 unfolding judged
 yes_before_is_steps image script frames n list text stop given = by (stop_told n (last_of (lines text))) refl given
   where
-    by : (o : Option Stop) → stop_told n (last_of (lines text)) ≡ o → judged_by image script frames n list text o ≡ YesBefore stop → AreItemsBefore image script frames n list stop text
+    by : (o : Option Stop) → stop_told n (last_of (lines text)) ≡ o → judged_by image script frames n list text o ≡ YesBefore stop
+        → AreItemsBefore image script frames n list stop text
     by None is y = absurd (never_before stop text (course_of image script frames n list) (course_of image script frames n list).end y)
     by (Some told) is y =
         let k = steps_told (last_of (lines text)) in
         let c = course_of image script frames k list in
-        before_is_steps image script frames n list stop told text c is (courses_run k (bare image script frames) list k (boot (bare image script frames)) (omega arith)) (right_before stop told text c c.end y)
+        before_is_steps image script frames n list stop told text c is
+        (courses_run k (bare image script frames) list k (boot (bare image script frames)) (omega arith))
+        (right_before stop told text c c.end y)

@@ -21,7 +21,8 @@ use Rattle.trace_check.proofs.LastLine.{number_on, number_ends, lines_end, lines
 -- ---- a decimal number is read back
 
 abbrev ReadsBack : ℕ → List ℕ → Type 0
-ReadsBack n ds = (rest : List ℕ) → decimal_after 0 (take_while is_ascii_digit (ds ++ rest)) ≡ decimal_after n (take_while is_ascii_digit rest)
+ReadsBack n ds =
+    (rest : List ℕ) → decimal_after 0 (take_while is_ascii_digit (ds ++ rest)) ≡ decimal_after n (take_while is_ascii_digit rest)
 
 digit : (d : ℕ) → d < 10 → is_ascii_digit (48 + d) ≡ true
 digit d lt =
@@ -77,11 +78,13 @@ lines_same : (n : ℕ) (a b : End) → bytes_eq (end_line n a) (end_line n b) �
 lines_same n a b =
     ap (λ (l : List ℕ). bytes_eq l (end_line n b)) (parts_are n a)
     ∙ ap (λ (l : List ℕ). bytes_eq (codes "end steps " ++ (decimal n ++ behind_number a)) l) (parts_are n b)
-    ∙ bytes_front (codes "end steps ") (decimal n ++ behind_number a) (decimal n ++ behind_number b) ∙ bytes_front (decimal n) (behind_number a) (behind_number b)
+    ∙ bytes_front (codes "end steps ") (decimal n ++ behind_number a) (decimal n ++ behind_number b)
+    ∙ bytes_front (decimal n) (behind_number a) (behind_number b)
 
 find_same : (p q : Stop → Bool) → ((x : Stop) → p x ≡ q x) → (xs : List Stop) → find p xs ≡ find q xs
 find_same p q is [] = refl
-find_same p q is (x ∷ xs) = ap (λ (e : Bool). cond e (Some x) (find p xs)) (is x) ∙ ap (λ (o : Option Stop). cond (q x) (Some x) o) (find_same p q is xs)
+find_same p q is (x ∷ xs) =
+    ap (λ (e : Bool). cond e (Some x) (find p xs)) (is x) ∙ ap (λ (o : Option Stop). cond (q x) (Some x) o) (find_same p q is xs)
 
 -- the stop that a last line reports, where it is one of a monitor's own
 abbrev pub told_of : End → Option Stop
@@ -113,9 +116,11 @@ unfolding stop_told
 stop_back n k end le lt =
     let line = end_line k end in
     let within : nat_le k n ≡ true = le-leb k n le in
-    ap (λ (j : ℕ). cond (nat_le j n) (find (λ (stop : Stop). bytes_eq line (end_line j (Stopped stop))) monitor_stops) None) (steps_back k end lt)
+    ap (λ (j : ℕ). cond (nat_le j n) (find (λ (stop : Stop). bytes_eq line (end_line j (Stopped stop))) monitor_stops) None)
+    (steps_back k end lt)
     ∙ ap (λ (b : Bool). cond b (find (λ (stop : Stop). bytes_eq line (end_line k (Stopped stop))) monitor_stops) None) within
-    ∙ find_same (λ (stop : Stop). bytes_eq line (end_line k (Stopped stop))) (λ (stop : Stop). bytes_eq (behind_number end) (behind_number (Stopped stop))) (λ x. lines_same k end (Stopped x)) monitor_stops
+    ∙ find_same (λ (stop : Stop). bytes_eq line (end_line k (Stopped stop)))
+    (λ (stop : Stop). bytes_eq (behind_number end) (behind_number (Stopped stop))) (λ x. lines_same k end (Stopped x)) monitor_stops
     ∙ found_there end
 
 -- ---- the lines of a text that goes on after a newline
@@ -138,13 +143,17 @@ begun_join : (b : ℕ) (xs ys : List (List ℕ)) → Some_line xs → begun_by b
 begun_join b xs ys h = subst (λ (l : List (List ℕ)). begun_by b (l ++ ys) ≡ begun_by b l ++ ys) (sym h.is) refl
 
 lines_join : (front rest : List ℕ) → lines (front ++ 10 ∷ rest) ≡ lines (front ++ 10 ∷ []) ++ lines rest
-lines_join [] rest = lines_end 10 rest refl ∙ ap (λ (l : List (List ℕ)). l ++ lines rest) (sym (lines_end 10 [] refl ∙ ap (λ (l : List (List ℕ)). (10 ∷ []) ∷ l) lines_none))
+lines_join [] rest = lines_end 10 rest refl
+    ∙ ap (λ (l : List (List ℕ)). l ++ lines rest) (sym (lines_end 10 [] refl ∙ ap (λ (l : List (List ℕ)). (10 ∷ []) ∷ l) lines_none))
 lines_join (b ∷ front) rest = by (lines_join front rest) (b == 10) refl
   where
-    by : lines (front ++ 10 ∷ rest) ≡ lines (front ++ 10 ∷ []) ++ lines rest → (e : Bool) → (b == 10) ≡ e → lines (b ∷ (front ++ 10 ∷ rest)) ≡ lines (b ∷ (front ++ 10 ∷ [])) ++ lines rest
-    by later true is = lines_end b (front ++ 10 ∷ rest) is ∙ ap (λ (l : List (List ℕ)). (b ∷ []) ∷ l) later ∙ sym (ap (λ (l : List (List ℕ)). l ++ lines rest) (lines_end b (front ++ 10 ∷ []) is))
+    by : lines (front ++ 10 ∷ rest) ≡ lines (front ++ 10 ∷ []) ++ lines rest → (e : Bool) → (b == 10) ≡ e
+        → lines (b ∷ (front ++ 10 ∷ rest)) ≡ lines (b ∷ (front ++ 10 ∷ [])) ++ lines rest
+    by later true is = lines_end b (front ++ 10 ∷ rest) is ∙ ap (λ (l : List (List ℕ)). (b ∷ []) ∷ l) later
+        ∙ sym (ap (λ (l : List (List ℕ)). l ++ lines rest) (lines_end b (front ++ 10 ∷ []) is))
     by later false is =
-        lines_mid b (front ++ 10 ∷ rest) is ∙ ap (begun_by b) later ∙ begun_join b (lines (front ++ 10 ∷ [])) (lines rest) (some_front front)
+        lines_mid b (front ++ 10 ∷ rest) is ∙ ap (begun_by b) later
+        ∙ begun_join b (lines (front ++ 10 ∷ [])) (lines rest) (some_front front)
         ∙ sym (ap (λ (l : List (List ℕ)). l ++ lines rest) (lines_mid b (front ++ 10 ∷ []) is))
 
 -- an item's line up to its newline
@@ -166,7 +175,8 @@ items_join (item ∷ items) rest =
     ∙ lines_join (item_front item) (lines_of items ++ rest)
     ∙ ap (λ (l : List (List ℕ)). head ++ l) (items_join items rest)
     ∙ sym (append_assoc head (lines (lines_of items)) (lines rest))
-    ∙ ap (λ (l : List (List ℕ)). l ++ lines rest) (sym (ap lines (item_before item (lines_of items)) ∙ lines_join (item_front item) (lines_of items)))
+    ∙ ap (λ (l : List (List ℕ)). l ++ lines rest)
+    (sym (ap lines (item_before item (lines_of items)) ∙ lines_join (item_front item) (lines_of items)))
 
 -- ---- the last line is one line
 
@@ -182,7 +192,8 @@ plain_join : (xs ys : List ℕ) → is_plain xs ≡ true → is_plain ys ≡ tru
 plain_join [] ys p q = q
 plain_join (b ∷ xs) ys p q = by (λ h. plain_join xs ys h q) (b == 10) p
   where
-    by : (is_plain xs ≡ true → is_plain (xs ++ ys) ≡ true) → (e : Bool) → cond e false (is_plain xs) ≡ true → cond e false (is_plain (xs ++ ys)) ≡ true
+    by : (is_plain xs ≡ true → is_plain (xs ++ ys) ≡ true) → (e : Bool) → cond e false (is_plain xs) ≡ true
+        → cond e false (is_plain (xs ++ ys)) ≡ true
     by later true h = absurd (clash h)
     by later false h = later h
 
@@ -196,7 +207,8 @@ digit_plain d = elim (eqb_tells (48 + d) 10) [
 ]
 
 decimal_plain : (n : ℕ) → n < 2 ^ 64 → is_plain (decimal n) ≡ true
-decimal_plain n lt = decimal_by_steps IsPlain (λ k small. digit_plain k) (λ k ds large h. plain_join ds ((48 + k % 10) ∷ []) h (digit_plain (k % 10))) n lt
+decimal_plain n lt =
+    decimal_by_steps IsPlain (λ k small. digit_plain k) (λ k ds large h. plain_join ds ((48 + k % 10) ∷ []) h (digit_plain (k % 10))) n lt
 
 end_plain : (end : End) → is_plain (end_text end) ≡ true
 unfolding stop_name
@@ -222,7 +234,8 @@ one_line : (word : List ℕ) → is_plain word ≡ true → lines (word ++ 10 �
 one_line [] p = lines_end 10 [] refl ∙ ap (λ (l : List (List ℕ)). (10 ∷ []) ∷ l) lines_none
 one_line (b ∷ word) p = by (λ h. one_line word h) (b == 10) refl p
   where
-    by : (is_plain word ≡ true → lines (word ++ 10 ∷ []) ≡ (word ++ 10 ∷ []) ∷ []) → (e : Bool) → (b == 10) ≡ e → cond e false (is_plain word) ≡ true → lines (b ∷ (word ++ 10 ∷ [])) ≡ (b ∷ (word ++ 10 ∷ [])) ∷ []
+    by : (is_plain word ≡ true → lines (word ++ 10 ∷ []) ≡ (word ++ 10 ∷ []) ∷ []) → (e : Bool) → (b == 10) ≡ e
+        → cond e false (is_plain word) ≡ true → lines (b ∷ (word ++ 10 ∷ [])) ≡ (b ∷ (word ++ 10 ∷ [])) ∷ []
     by later true is h = absurd (clash h)
     by later false is h = lines_mid b (word ++ 10 ∷ []) is ∙ ap (begun_by b) (later h)
 
@@ -234,7 +247,8 @@ end_alone : (n : ℕ) (end : End) → n < 2 ^ 64 → lines (end_line n end) ≡ 
 end_alone n end lt =
     let word = codes "end steps " ++ (decimal n ++ end_text end) in
     ap lines (end_is n end)
-    ∙ one_line word (plain_join (codes "end steps ") (decimal n ++ end_text end) refl (plain_join (decimal n) (end_text end) (decimal_plain n lt) (end_plain end)))
+    ∙ one_line word (plain_join (codes "end steps ") (decimal n ++ end_text end) refl
+    (plain_join (decimal n) (end_text end) (decimal_plain n lt) (end_plain end)))
     ∙ ap (λ (l : List ℕ). l ∷ []) (sym (end_is n end))
 
 last_pushed : (xs : List (List ℕ)) (l : List ℕ) → last_of (xs ++ l ∷ []) ≡ l
@@ -247,7 +261,8 @@ before_pushed [] l = refl
 before_pushed (x ∷ []) l = refl
 before_pushed (x ∷ y ∷ xs) l = ap (λ (ls : List (List ℕ)). x ∷ ls) (before_pushed (y ∷ xs) l)
 
-text_lines : (items : List Item) (n : ℕ) (end : End) → n < 2 ^ 64 → lines (text_of items n end) ≡ lines (lines_of items) ++ end_line n end ∷ []
+text_lines : (items : List Item) (n : ℕ) (end : End) → n < 2 ^ 64 → lines (text_of items n end) ≡ lines (lines_of items)
+    ++ end_line n end ∷ []
 unfolding text_of
 text_lines items n end lt = items_join items (end_line n end) ∙ ap (λ (l : List (List ℕ)). lines (lines_of items) ++ l) (end_alone n end lt)
 

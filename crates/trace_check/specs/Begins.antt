@@ -31,7 +31,8 @@ whole_entries set = set
 -- the machine stands where every run begins
 abbrev pub BeginsAs : Image → ℕ → Result (machines.BareMachine Set) ReplayFault → Type 0
 BeginsAs image frames (Ok machine) =
-    (need image ≤ frames) × (machine.frames ≡ frames) × (machine.step ≡ 0) × IsKept machine.frames (state_of whole_entries machine) × ((script : Events) → state_of whole_entries machine ≡ boot (bare image script frames))
+    (need image ≤ frames) × (machine.frames ≡ frames) × (machine.step ≡ 0) × IsKept machine.frames (state_of whole_entries machine)
+    × ((script : Events) → state_of whole_entries machine ≡ boot (bare image script frames))
 BeginsAs image frames (Err fault) = ReplayFails image frames fault
 
 -- how the course of choices ends
@@ -45,7 +46,8 @@ by_end (BadAt at) line = BadEntry at
 by_end (Ended end) line = Differs line
 
 abbrev pub DiffersUnlessBad : Image → Events → ℕ → ℕ → List Choice → ℕ → Result Verdict ReplayFault → Type 0
-DiffersUnlessBad image script frames n list line (Ok verdict) = (need image ≤ frames) × (verdict ≡ by_end (course_of image script frames n list).end line)
+DiffersUnlessBad image script frames n list line (Ok verdict) =
+    (need image ≤ frames) × (verdict ≡ by_end (course_of image script frames n list).end line)
 DiffersUnlessBad image script frames n list line (Err fault) = ReplayFails image frames fault
 
 abbrev pub end_verdict : End → Stop → ℕ → Verdict
@@ -55,7 +57,8 @@ end_verdict (Stopped other) stop line = Differs line
 -- the verdict on the front of a text, whose last line reports this stop
 abbrev pub before_by : Stop → List ℕ → Course → CourseEnd → Verdict
 before_by stop front c (BadAt at) = BadEntry at
-before_by stop front c (Ended end) = unless_differs (differing 1 (lines (lines_of (trace_of c.reports))) (lines front)) (end_verdict end stop (line_behind front))
+before_by stop front c (Ended end) =
+    unless_differs (differing 1 (lines (lines_of (trace_of c.reports))) (lines front)) (end_verdict end stop (line_behind front))
 
 -- the verdict on a whole text, or on such a front
 abbrev pub verdict_on : List ℕ → Option Stop → Course → Verdict
@@ -68,5 +71,6 @@ ComparesAs text told c (Ok verdict) = verdict ≡ verdict_on text told c
 ComparesAs text told c (Err line) = by_end c.end line ≡ verdict_on text told c
 
 abbrev pub JudgesAs : Image → Events → ℕ → ℕ → List Choice → List ℕ → Option Stop → Result Verdict ReplayFault → Type 0
-JudgesAs image script frames n list text told (Ok verdict) = (need image ≤ frames) × (verdict ≡ verdict_on text told (course_of image script frames n list))
+JudgesAs image script frames n list text told (Ok verdict) =
+    (need image ≤ frames) × (verdict ≡ verdict_on text told (course_of image script frames n list))
 JudgesAs image script frames n list text told (Err fault) = ReplayFails image frames fault

@@ -49,7 +49,8 @@ after_made at (Some set) later = later set
 unfoldable pub chosen : Setting → State → ℕ → List Choice → Set → Result Set ℕ
 chosen s b at [] set = Ok set
 chosen s b at (c ∷ rest) set =
-    if c.step == b.step then after_made at (made s b c.kind c.page set) (λ new. chosen s b (at + 1) rest new) else chosen s b (at + 1) rest set
+    if c.step == b.step then after_made at (made s b c.kind c.page set) (λ new. chosen s b (at + 1) rest new)
+    else chosen s b (at + 1) rest set
 
 -- what a run reports, the count of steps at its end, and how it ends
 pub record Course : Type 0 where
@@ -59,7 +60,8 @@ pub record Course : Type 0 where
 
 -- a step, and what comes after it
 abbrev pub after_step : ℕ → steps.Result → (State → Course) → Course
-after_step step (Went report new) later = record { reports = report ∷ (later new).reports; count = (later new).count; end = (later new).end }
+after_step step (Went report new) later =
+    record { reports = report ∷ (later new).reports; count = (later new).count; end = (later new).end }
 after_step step (Halts stop) later = record { reports = []; count = step; end = Ended (Stopped stop) }
 
 -- the choices of a step, and then the step

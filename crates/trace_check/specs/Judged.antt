@@ -32,7 +32,8 @@ judged_end stop text (Stopped other) = Differs (length (lines text))
 
 abbrev pub judged_before : Stop → List ℕ → Course → CourseEnd → Verdict
 judged_before stop text c (BadAt at) = BadEntry at
-judged_before stop text c (Ended end) = unless_differs (differing 1 (lines (lines_of (trace_of c.reports))) (before_last (lines text))) (judged_end stop text end)
+judged_before stop text c (Ended end) =
+    unless_differs (differing 1 (lines (lines_of (trace_of c.reports))) (before_last (lines text))) (judged_end stop text end)
 
 -- by the stop that the last line reports: the run goes to the step that would stop, or else to the n steps
 abbrev pub judged_by : Image → Events → ℕ → ℕ → List Choice → List ℕ → Option Stop → Verdict

@@ -40,7 +40,9 @@ differing n (a ∷ rest) (b ∷ bs) = if bytes_eq a b then differing (n + 1) res
 -- ---- the last line of a run that ended at a stop of a monitor's own
 
 abbrev pub monitor_stops : List Stop
-monitor_stops = stops.TextTouched ∷ stops.WedgeTouched ∷ stops.LowTouched ∷ stops.NotAStart ∷ stops.TextMapped ∷ stops.TableInText ∷ stops.UserFlags ∷ stops.CodeIsTable ∷ []
+monitor_stops =
+    stops.TextTouched ∷ stops.WedgeTouched ∷ stops.LowTouched ∷ stops.NotAStart ∷ stops.TextMapped ∷ stops.TableInText ∷ stops.UserFlags ∷
+    stops.CodeIsTable ∷ []
 
 -- the number that the digits at the front of a text say
 abbrev pub number_of : List ℕ → ℕ

@@ -28,7 +28,8 @@ abbrev pub AreHeldBehind : State → List Note → Type 0
 AreHeldBehind last notes = (page : ℕ) → list_any (is_dropped last.step page) notes ≡ true → IsSome (get last.set page)
 
 -- The notes report the translations that each step of a run used, the one that stops included, and are kept.
-pub record TellsSets (image : Image) (script : Events) (frames : ℕ) (sets : List Set) (last : State) (end : End) (kept : KeptChoices) (notes : List Note) : Type 0 where
+pub record TellsSets (image : Image) (script : Events) (frames : ℕ) (sets : List Set) (last : State) (end : End) (kept : KeptChoices)
+    (notes : List Note) : Type 0 where
   pub are_kept : AreKept kept notes
   pub told : AreTold (wedge image script frames) (boot (wedge image script frames)) sets notes
   pub are : AreNotes (wedge image script frames) (boot (wedge image script frames)) sets last.step notes
@@ -38,7 +39,8 @@ pub record TellsSets (image : Image) (script : Events) (frames : ℕ) (sets : Li
 -- One run from the start has this text, count of steps and end. The host completed exactly its direct instructions, and where
 -- it has done all its steps, its memory is the host's first frames with the text patched, and a guest stands there that keeps what its
 -- notes leave of the last set. Its notes are kept, and prove its text.
-pub record NotedRun (image : Image) (script : Events) (frames n : ℕ) (text : List ℕ) (ended : Ended) (a : Around) (memory : List ℕ) (kept : KeptChoices) : Type 0 where
+pub record NotedRun (image : Image) (script : Events) (frames n : ℕ) (text : List ℕ) (ended : Ended) (a : Around) (memory : List ℕ)
+    (kept : KeptChoices) : Type 0 where
   pub sets : List Set
   pub reports : List Report
   pub last : State

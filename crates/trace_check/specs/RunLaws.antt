@@ -34,7 +34,8 @@ YesBeforeIsSteps =
 -- monitor's own. (A bound is at most 2 ^ 40, as of every run.)
 abbrev pub NotesAreJudged : Type 0
 NotesAreJudged =
-    (image : Image) (script : Events) (frames n : ℕ) (sets : List Set) (reports : List Report) (last : State) (end : End) (notes : List Note)
+    (image : Image) (script : Events) (frames n : ℕ) (sets : List Set) (reports : List Report) (last : State)
+    (end : End) (notes : List Note)
     → n ≤ 2 ^ 40
     → Run (wedge image script frames) n (boot (wedge image script frames)) sets reports last end
     → AreTold (wedge image script frames) (boot (wedge image script frames)) sets notes

@@ -20,4 +20,5 @@ IsNumber value (Some n) = n ≡ value
 abbrev pub TellsAs : List ℕ → ℕ → Option Told → Type 0
 TellsAs text n None = stop_told n (last_of (lines text)) ≡ None
 TellsAs text n (Some told) =
-    (stop_told n (last_of (lines text)) ≡ Some told.stop) × (told.steps ≡ steps_told (last_of (lines text))) × (told.steps ≤ n) × IsLastLine text told.at
+    (stop_told n (last_of (lines text)) ≡ Some told.stop) × (told.steps ≡ steps_told (last_of (lines text))) × (told.steps ≤ n)
+    × IsLastLine text told.at

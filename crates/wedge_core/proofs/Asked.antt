@@ -11,8 +11,10 @@ use Rattle.wedge_step.specs.declared.running.Lost.{Lost}
 use Rattle.wedge_step.proofs.Parts.{part_same, part_allowed}
 
 -- what the step notes of its walks and writes may differ
-pub once_goes : (m : Setting) (b filled new : State) (before after : Counts) (lost : Lost) → (lost.after ≡ false) × (lost.reloaded ≡ false) → Once m filled new before after
-    → ((report : Report) (then : State) → stepped m filled ≡ Went report then → (tables : List ℕ) × (wrote : List ℕ) × (stepped m (with_set b (left_of lost.before b.set)) ≡ Went (record report { tables = tables; wrote = wrote }) then))
+pub once_goes : (m : Setting) (b filled new : State) (before after : Counts) (lost : Lost) → (lost.after ≡ false) × (lost.reloaded ≡ false)
+    → Once m filled new before after
+    → ((report : Report) (then : State) → stepped m filled ≡ Went report then → (tables : List ℕ) × (wrote : List ℕ)
+    × (stepped m (with_set b (left_of lost.before b.set)) ≡ Went (record report { tables = tables; wrote = wrote }) then))
     → Goes m b lost Nothing new before after
 once_goes m b filled new before after lost kept once same =
     let s = same once.report new once.went in

@@ -82,9 +82,12 @@ in_after visited None q short c = inl c
 in_after visited (Some r) q short c = choice ((r.at + r.len - 1) / 4096 == r.at / 4096) (unfold went_by in c)
   where
     first : Contains (visited ++ (r.at / 4096) ∷ []) q → Contains visited q ⊎ ((q ≡ r.at / 4096) ⊎ (q ≡ last_page r))
-    first d = elim (Contains-append_cases visited ((r.at / 4096) ∷ []) q d) [ inl x ↦ inl x | inr y ↦ inr (inl (one_there (r.at / 4096) q y)) ]
+    first d =
+        elim (Contains-append_cases visited ((r.at / 4096) ∷ []) q d) [ inl x ↦ inl x | inr y ↦ inr (inl (one_there (r.at / 4096) q y)) ]
 
-    choice : (one : Bool) → Contains (cond one (visited ++ (r.at / 4096) ∷ []) ((visited ++ (r.at / 4096) ∷ []) ++ ((r.at + r.len - 1) / 4096) ∷ [])) q → Contains visited q ⊎ ((q ≡ r.at / 4096) ⊎ (q ≡ last_page r))
+    choice : (one : Bool) → Contains
+        (cond one (visited ++ (r.at / 4096) ∷ []) ((visited ++ (r.at / 4096) ∷ []) ++ ((r.at + r.len - 1) / 4096) ∷ [])) q
+        → Contains visited q ⊎ ((q ≡ r.at / 4096) ⊎ (q ≡ last_page r))
     choice true d = first d
     choice false d =
         elim (Contains-append_cases (visited ++ (r.at / 4096) ∷ []) (((r.at + r.len - 1) / 4096) ∷ []) q d) [
@@ -97,7 +100,9 @@ unfolding went_after went_by
 after_few visited None = omega arith
 after_few visited (Some r) = choice ((r.at + r.len - 1) / 4096 == r.at / 4096)
   where
-    choice : (one : Bool) → length (cond one (visited ++ (r.at / 4096) ∷ []) ((visited ++ (r.at / 4096) ∷ []) ++ ((r.at + r.len - 1) / 4096) ∷ [])) ≤ length visited + 2
+    choice : (one : Bool) → length
+        (cond one (visited ++ (r.at / 4096) ∷ []) ((visited ++ (r.at / 4096) ∷ []) ++ ((r.at + r.len - 1) / 4096) ∷ []))
+        ≤ length visited + 2
     choice true = let x = length-append visited ((r.at / 4096) ∷ []) in omega (arith, x)
     choice false =
         let x = length-append visited ((r.at / 4096) ∷ []) in
@@ -110,13 +115,16 @@ unfolding went_after went_by
 after_cancel xs ys None e = e
 after_cancel xs ys (Some r) e = choice ((r.at + r.len - 1) / 4096 == r.at / 4096) e
   where
-    choice : (one : Bool) → cond one (xs ++ (r.at / 4096) ∷ []) ((xs ++ (r.at / 4096) ∷ []) ++ ((r.at + r.len - 1) / 4096) ∷ []) ≡ cond one (ys ++ (r.at / 4096) ∷ []) ((ys ++ (r.at / 4096) ∷ []) ++ ((r.at + r.len - 1) / 4096) ∷ [])
+    choice : (one : Bool) → cond one (xs ++ (r.at / 4096) ∷ []) ((xs ++ (r.at / 4096) ∷ []) ++ ((r.at + r.len - 1) / 4096) ∷ []) ≡ cond one
+        (ys ++ (r.at / 4096) ∷ []) ((ys ++ (r.at / 4096) ∷ []) ++ ((r.at + r.len - 1) / 4096) ∷ [])
         → xs ≡ ys
     choice true f = append_cancel_right xs ys ((r.at / 4096) ∷ []) f
     choice false f =
-        append_cancel_right xs ys ((r.at / 4096) ∷ []) (append_cancel_right (xs ++ (r.at / 4096) ∷ []) (ys ++ (r.at / 4096) ∷ []) (((r.at + r.len - 1) / 4096) ∷ []) f)
+        append_cancel_right xs ys ((r.at / 4096) ∷ [])
+        (append_cancel_right (xs ++ (r.at / 4096) ∷ []) (ys ++ (r.at / 4096) ∷ []) (((r.at + r.len - 1) / 4096) ∷ []) f)
 
-fetch_few : (user : Bool) (eip : ℕ) (insn : Insn) (len : ℕ) (s t : Space) → s.visited ≡ [] → fetched user eip s ≡ Ok (begins.Insn insn len, t) → length t.visited ≤ 2
+fetch_few : (user : Bool) (eip : ℕ) (insn : Insn) (len : ℕ) (s t : Space) → s.visited ≡ []
+    → fetched user eip s ≡ Ok (begins.Insn insn len, t) → length t.visited ≤ 2
 fetch_few user eip insn len s t none e =
     let p = fetch_parts user eip insn len s t e in
     by_end p (by_parts user eip insn len p.front p.first t (decoded p.front) refl p.goes_on)
@@ -125,7 +133,8 @@ fetch_few user eip insn len s t none e =
     first_long p =
         ap length (fetching_went user eip (front_len eip) s p.front p.first p.reads ∙ ap (λ (l : List ℕ). l ++ (eip / 4096) ∷ []) none)
 
-    by_end : (p : IsFetch user eip insn len s t) → IsIn eip insn len p.front p.first t ⊎ IsPast user eip insn len p.front p.first t → length t.visited ≤ 2
+    by_end : (p : IsFetch user eip insn len s t) → IsIn eip insn len p.front p.first t ⊎ IsPast user eip insn len p.front p.first t
+        → length t.visited ≤ 2
     by_end p (inl x) = let a = ap length x.visited in let f = first_long p in omega (arith, a, f)
     by_end p (inr x) =
         let a = ap length x.on.visited in
@@ -135,11 +144,13 @@ fetch_few user eip insn len s t none e =
 
 -- ---- the view may show what was granted
 
-has_tables_under : (image : Image) (side : Side) (page frame : ℕ) → IsOpen (is_kernel side) image page frame → may_use (wedge_mode image) (is_user side) page frame ≡ true
+has_tables_under : (image : Image) (side : Side) (page frame : ℕ) → IsOpen (is_kernel side) image page frame
+    → may_use (wedge_mode image) (is_user side) page frame ≡ true
 has_tables_under image User page frame h = ap not h
 has_tables_under image Kernel page frame (inl g) = ap (λ (b : Bool). b || (nat_le 0x11000 page && not (is_text (wedge_mode image) frame))) g
 has_tables_under image Kernel page frame (inr p) =
-    ap (λ (b : Bool). is_given (wedge_mode image) page frame || (b && not (is_text (wedge_mode image) frame))) (Rattle.std.proofs.lemmas.Bool.le-leb 0x11000 page p.0)
+    ap (λ (b : Bool). is_given (wedge_mode image) page frame || (b && not (is_text (wedge_mode image) frame)))
+    (Rattle.std.proofs.lemmas.Bool.le-leb 0x11000 page p.0)
     ∙ ap (λ (b : Bool). is_given (wedge_mode image) page frame || not b) p.1
     ∙ or_true (is_given (wedge_mode image) page frame)
   where
@@ -147,15 +158,18 @@ has_tables_under image Kernel page frame (inr p) =
     or_true true = refl
     or_true false = refl
 
-entry_open : (image : Image) (side : Side) (frames : ℕ) (s : Space) (wp write : Bool) (page : ℕ) → changes.AreWithin frames s.set → IsGranted image (is_kernel side) wp s write page → is_entry_open (text_pages image) side (get s.set page) ≡ true
+entry_open : (image : Image) (side : Side) (frames : ℕ) (s : Space) (wp write : Bool) (page : ℕ) → changes.AreWithin frames s.set
+    → IsGranted image (is_kernel side) wp s write page → is_entry_open (text_pages image) side (get s.set page) ≡ true
 entry_open image side frames s wp write page within g =
     let page_is : g.entry.page ≡ page = (within page g.entry g.kept).0 in
-    ap (is_entry_open (text_pages image) side) g.kept ∙ has_tables_under image side g.entry.page g.entry.frame (subst (λ (p : ℕ). IsOpen (is_kernel side) image p g.entry.frame) (sym page_is) g.is_open)
+    ap (is_entry_open (text_pages image) side) g.kept ∙ has_tables_under image side g.entry.page g.entry.frame
+    (subst (λ (p : ℕ). IsOpen (is_kernel side) image p g.entry.frame) (sym page_is) g.is_open)
 
 -- ---- the step
 
 module _ (grants : Grants) (repeats : Again) (completes : NativeCompletes) (m : Setting) (w : IsWedge m) (directory : Side → ℕ) (b : State)
-    (room : 4096 * m.frames ≤ length b.ram) (fit : AreBytes b.ram) (sound : again.AreWithin m b.set) (sees : Sees (view_by directory b.cpu) b.cpu) (next : IsNext m (not (b.cpu.cpl == 3)) b) (small : b.cpu.regs.eip < 2 ^ 32)
+    (room : 4096 * m.frames ≤ length b.ram) (fit : AreBytes b.ram) (sound : again.AreWithin m b.set)
+    (sees : Sees (view_by directory b.cpu) b.cpu) (next : IsNext m (not (b.cpu.cpl == 3)) b) (small : b.cpu.regs.eip < 2 ^ 32)
     (t : Space) (p : IsPrepared (unheld b) (space_at_start m.mode m.frames b.cpu b.ram b.set) t) (clear : instruction_clashes m b ≡ false)
   where
     abbrev v : View
@@ -168,7 +182,8 @@ module _ (grants : Grants) (repeats : Again) (completes : NativeCompletes) (m : 
     ranges = ranges_of p.insn b.cpu.regs
 
     translated : IsTranslated m b p.insn p.len p.after_fetch p.after_read t
-    translated = record { fetched = p.fetches; permitted = p.permits; plain = p.plain; segments = p.segments; read = p.reads; write = p.writes }
+    translated =
+        record { fetched = p.fetches; permitted = p.permits; plain = p.plain; segments = p.segments; read = p.reads; write = p.writes }
 
     left : Leaves m (view_by directory b.cpu) b p.insn p.len p.after_fetch t
     left = grants m v b w.mode room fit sound sees next small p.insn p.len p.after_fetch p.after_read t translated clear
@@ -177,24 +192,29 @@ module _ (grants : Grants) (repeats : Again) (completes : NativeCompletes) (m : 
     same_again = repeats m v b w.mode room fit sound sees next small p.insn p.len p.after_fetch p.after_read t translated clear
 
     granted : AreGranted m.image (is_kernel (side_of (b.cpu.cpl == 3))) (wp_of b.cpu) t p.after_fetch.visited (ranges_of p.insn b.cpu.regs)
-    granted = subst (λ (k : Bool). AreGranted m.image k (wp_of b.cpu) t p.after_fetch.visited (ranges_of p.insn b.cpu.regs)) (sym (side_is b.cpu)) left.granted
+    granted = subst (λ (k : Bool). AreGranted m.image k (wp_of b.cpu) t p.after_fetch.visited (ranges_of p.insn b.cpu.regs))
+        (sym (side_is b.cpu)) left.granted
 
     goes : t.visited ≡ went_after (went_after p.after_fetch.visited ranges.read) ranges.write
-    goes = range_goes b.cpu p.after_read t true ranges.write p.writes ∙ ap (λ (l : List ℕ). went_after l ranges.write) (range_goes b.cpu p.after_fetch p.after_read false ranges.read p.reads)
+    goes = range_goes b.cpu p.after_read t true ranges.write p.writes
+        ∙ ap (λ (l : List ℕ). went_after l ranges.write) (range_goes b.cpu p.after_fetch p.after_read false ranges.read p.reads)
 
     few : length t.visited ≤ 6
     few =
         let a = ap length goes in
-        let f = fetch_few (b.cpu.cpl == 3) b.cpu.regs.eip p.insn p.len (space_at_start m.mode m.frames b.cpu b.ram b.set) p.after_fetch refl p.fetches in
+        let f = fetch_few (b.cpu.cpl == 3) b.cpu.regs.eip p.insn p.len (space_at_start m.mode m.frames b.cpu b.ram b.set)
+        p.after_fetch refl p.fetches in
         let r = after_few p.after_fetch.visited ranges.read in
         let x = after_few (went_after p.after_fetch.visited ranges.read) ranges.write in
         omega (arith, a, f, r, x)
 
-    page_open : (frames q : ℕ) → changes.AreWithin frames t.set → Contains t.visited q → is_entry_open (text_pages m.image) (side_of (b.cpu.cpl == 3)) (get t.set q) ≡ true
+    page_open : (frames q : ℕ) → changes.AreWithin frames t.set → Contains t.visited q
+        → is_entry_open (text_pages m.image) (side_of (b.cpu.cpl == 3)) (get t.set q) ≡ true
     unfolding InRange
     page_open frames q within c =
         let short = ranges_short p.insn b.cpu.regs in
-        elim (in_after (went_after p.after_fetch.visited ranges.read) ranges.write q short.1 (subst (λ (l : List ℕ). Contains l q) goes c)) [
+        elim (in_after (went_after p.after_fetch.visited ranges.read) ranges.write q short.1
+        (subst (λ (l : List ℕ). Contains l q) goes c)) [
           | inl d ↦ elim (in_after p.after_fetch.visited ranges.read q short.0 d) [
             | inl f ↦ entry_open m.image side frames t (wp_of b.cpu) false q within (granted.fetch q f)
             | inr r ↦ by_range false ranges.read granted.read r
@@ -202,31 +222,41 @@ module _ (grants : Grants) (repeats : Again) (completes : NativeCompletes) (m : 
           | inr x ↦ by_range true ranges.write granted.write x
         ]
       where
-        by_range : (write : Bool) (o : Option Range) → IsRangeGranted m.image (is_kernel side) (wp_of b.cpu) t write o → InRange o q → is_entry_open (text_pages m.image) side (get t.set q) ≡ true
+        by_range : (write : Bool) (o : Option Range) → IsRangeGranted m.image (is_kernel side) (wp_of b.cpu) t write o → InRange o q
+            → is_entry_open (text_pages m.image) side (get t.set q) ≡ true
         by_range write None g i = absurd i
-        by_range write (Some r) g (inl e) = entry_open m.image side frames t (wp_of b.cpu) write q within (subst (IsGranted m.image (is_kernel side) (wp_of b.cpu) t write) (sym e) g.0)
-        by_range write (Some r) g (inr e) = entry_open m.image side frames t (wp_of b.cpu) write q within (subst (IsGranted m.image (is_kernel side) (wp_of b.cpu) t write) (sym e) g.1)
+        by_range write (Some r) g (inl e) = entry_open m.image side frames t (wp_of b.cpu) write q within
+            (subst (IsGranted m.image (is_kernel side) (wp_of b.cpu) t write) (sym e) g.0)
+        by_range write (Some r) g (inr e) = entry_open m.image side frames t (wp_of b.cpu) write q within
+            (subst (IsGranted m.image (is_kernel side) (wp_of b.cpu) t write) (sym e) g.1)
 
-    pub may_close : (frames count free : ℕ) (cs : List Change) → changes.AreToldIn t.visited cs → count ≡ text_pages m.image → changes.AreWithin frames t.set → 8 ≤ free → MayClose count (side_of (b.cpu.cpl == 3)) t.set (pages_of t.visited cs) free
+    pub may_close : (frames count free : ℕ) (cs : List Change) → changes.AreToldIn t.visited cs → count ≡ text_pages m.image
+        → changes.AreWithin frames t.set → 8 ≤ free → MayClose count (side_of (b.cpu.cpl == 3)) t.set (pages_of t.visited cs) free
     may_close frames count free cs told count_is within enough = record {
-      open_to = λ q h. subst (λ (n : ℕ). is_entry_open n (side_of (b.cpu.cpl == 3)) (get t.set q) ≡ true) (sym count_is) (page_open frames q within (among_contains t.visited q (told_among t.visited cs told q h)));
-      room = (let u = used_within t.set (pages_of t.visited cs) t.visited (told_among t.visited cs told) in let f = few in omega (arith, u, f, enough));
+      open_to = λ q h. subst (λ (n : ℕ). is_entry_open n (side_of (b.cpu.cpl == 3)) (get t.set q) ≡ true) (sym count_is)
+          (page_open frames q within (among_contains t.visited q (told_among t.visited cs told q h)));
+      room = (let u = used_within t.set (pages_of t.visited cs) t.visited (told_among t.visited cs told) in let f = few in
+          omega (arith, u, f, enough));
     }
 
     effect_is : effect_of (view_by directory b.cpu) (settled b t) p.insn p.len ≡ outcomes.Done p.regs p.stores
     effect_is = sym left.effect ∙ p.effect
 
     -- what the step reports is what was done for it here
-    pub reports : (report : Report) (after : State) → stepped m b ≡ Went report after → (report.pages ≡ t.visited) × (report.tables ≡ t.tables) × (report.wrote ≡ t.wrote)
+    pub reports : (report : Report) (after : State) → stepped m b ≡ Went report after → (report.pages ≡ t.visited)
+        × (report.tables ≡ t.tables) × (report.wrote ≡ t.wrote)
     reports report after e = same_again.reported p.regs p.stores effect_is report after e
 
     -- ---- the pages are filled
 
-    module _ (old new : ℕ → Option Slot) (cs : List Change) (write_protected : List ℕ) (memory : List ℕ) (closes : Closes old new t.set (pages_of t.visited cs) (side_of (b.cpu.cpl == 3)) (wp_of b.cpu) write_protected t.wrote)
+    module _ (old new : ℕ → Option Slot) (cs : List Change) (write_protected : List ℕ) (memory : List ℕ)
+        (closes : Closes old new t.set (pages_of t.visited cs) (side_of (b.cpu.cpl == 3)) (wp_of b.cpu) write_protected t.wrote)
         (beyond : (page : ℕ) → 2 ^ 20 ≤ page → get t.set page ≡ None)
-        (host : (page : ℕ) (write : Bool) → page < 2 ^ 20 → reached memory (length memory / 4096) (directory (side_of (b.cpu.cpl == 3))) page write ≡ lent (length memory / 4096) (new page) (side_of (b.cpu.cpl == 3)) write)
+        (host : (page : ℕ) (write : Bool) → page < 2 ^ 20 → reached memory (length memory / 4096) (directory (side_of (b.cpu.cpl == 3)))
+        page write ≡ lent (length memory / 4096) (new page) (side_of (b.cpu.cpl == 3)) write)
         (within : (page : ℕ) (entry : Entry) → get t.set page ≡ Some entry → entry.frame < length memory / 4096)
-        (stands : Mirrors m memory (view_by directory b.cpu) (settled b t)) (lends : Lends m memory (directory (side_of (b.cpu.cpl == 3))) (not (b.cpu.cpl == 3)) (wp_of b.cpu) t.set)
+        (stands : Mirrors m memory (view_by directory b.cpu) (settled b t))
+        (lends : Lends m memory (directory (side_of (b.cpu.cpl == 3))) (not (b.cpu.cpl == 3)) (wp_of b.cpu) t.set)
       where
         reached_all : AreReached memory (directory (side_of (b.cpu.cpl == 3))) p.after_fetch.visited (ranges_of p.insn b.cpu.regs)
         reached_all =
@@ -236,11 +266,14 @@ module _ (grants : Grants) (repeats : Again) (completes : NativeCompletes) (m : 
         fetched_same : p.after_fetch.visited ≡ same_again.fetched.visited
         fetched_same =
             let a = same_again in
-            let both : went_after (went_after p.after_fetch.visited ranges.read) ranges.write ≡ went_after (went_after a.fetched.visited ranges.read) ranges.write =
+            let both : went_after (went_after p.after_fetch.visited ranges.read) ranges.write ≡ went_after
+            (went_after a.fetched.visited ranges.read) ranges.write =
             sym goes
             ∙ (sym a.visited
-            ∙ (range_goes b.cpu a.reads a.writes true ranges.write a.translated.write ∙ ap (λ (l : List ℕ). went_after l ranges.write) (range_goes b.cpu a.fetched a.reads false ranges.read a.translated.read))) in
-            after_cancel p.after_fetch.visited a.fetched.visited ranges.read (after_cancel (went_after p.after_fetch.visited ranges.read) (went_after a.fetched.visited ranges.read) ranges.write both)
+            ∙ (range_goes b.cpu a.reads a.writes true ranges.write a.translated.write ∙ ap (λ (l : List ℕ). went_after l ranges.write)
+            (range_goes b.cpu a.fetched a.reads false ranges.read a.translated.read))) in
+            after_cancel p.after_fetch.visited a.fetched.visited ranges.read
+            (after_cancel (went_after p.after_fetch.visited ranges.read) (went_after a.fetched.visited ranges.read) ranges.write both)
 
         next_there : IsNext m (not (b.cpu.cpl == 3)) (settled b t)
         next_there = record { awake = next.awake; quiet = next.quiet; small = next.small; start = next.start; outside = next.outside }
@@ -249,9 +282,11 @@ module _ (grants : Grants) (repeats : Again) (completes : NativeCompletes) (m : 
         completed =
             let a = same_again in
             completes m memory v (settled b t) w stands lends next_there p.insn p.len a.fetched a.reads a.writes a.translated
-            (subst (λ (l : List ℕ). AreReached memory (directory (side_of (b.cpu.cpl == 3))) l (ranges_of p.insn b.cpu.regs)) fetched_same reached_all) p.regs p.stores effect_is
+            (subst (λ (l : List ℕ). AreReached memory (directory (side_of (b.cpu.cpl == 3))) l (ranges_of p.insn b.cpu.regs)) fetched_same
+            reached_all) p.regs p.stores effect_is
 
-        pub asks : (lost : Lost) → (lost.after ≡ false) × (lost.reloaded ≡ false) → (after : State) → after ≡ settled b t → Asks m (view_by directory b.cpu) b false lost after memory
+        pub asks : (lost : Lost) → (lost.after ≡ false) × (lost.reloaded ≡ false) → (after : State) → after ≡ settled b t
+            → Asks m (view_by directory b.cpu) b false lost after memory
         asks lost kept after e = subst (λ (x : State). Asks m (view_by directory b.cpu) b false lost x memory) (sym e) (record {
           kept = kept;
           regs = p.regs;

@@ -34,18 +34,23 @@ text_there image frames fits =
     let z = with_tables (with_directory (with_part (replicate {A = ℕ} n 0) 0x2000 boot_descriptors) image frames) image frames in
     let l : length (replicate {A = ℕ} n 0) ≡ n = length-replicate {A = ℕ} n 0 in
     let start : n ≤ length (replicate {A = ℕ} n 0) = omega (arith, l) in
-    let long : n ≤ length z = reaches n _ 0x18000 _ (reaches n _ 0x14000 _ (reaches n _ 0x4000 _ (reaches n _ 0x1110 _ (reaches n _ 0x1100 _ (reaches n _ 0x1C00 _ (reaches n _ 0x2000 _ start)))))) in
+    let long : n ≤ length z =
+    reaches n _ 0x18000 _ (reaches n _ 0x14000 _
+    (reaches n _ 0x4000 _ (reaches n _ 0x1110 _ (reaches n _ 0x1100 _ (reaches n _ 0x1C00 _ (reaches n _ 0x2000 _ start)))))) in
     let with_text : n ≤ length (with_part z 0x100000 image.text) = reaches n z 0x100000 image.text long in
-    part-with_part_below (with_part z 0x100000 image.text) (4096 * data_frame image) image.init 0x100000 (length image.text) (omega (arith, with_text, fits)) (omega arith)
+    part-with_part_below (with_part z 0x100000 image.text) (4096 * data_frame image) image.init 0x100000 (length image.text)
+    (omega (arith, with_text, fits)) (omega arith)
     ∙ part-with_part z 0x100000 image.text (length image.text) (omega (arith, long, fits)) refl
 
 -- a pool past the frames leaves them as they were
-pub front_stands : (image : Image) (frames count : ℕ) (old new : List ℕ) → SameOutside frames count old new → take (frames * 4096) old ≡ boot_ram image frames → take (4096 * frames) new ≡ boot_ram image frames
+pub front_stands : (image : Image) (frames count : ℕ) (old new : List ℕ) → SameOutside frames count old new
+    → take (frames * 4096) old ≡ boot_ram image frames → take (4096 * frames) new ≡ boot_ram image frames
 front_stands image frames count old new same is =
     let e : 4096 * frames ≡ frames * 4096 = omega arith in
     frames-same frames old new (λ g l. same.others g (inl l)) ∙ (ap (λ k. take k old) e ∙ is)
 
-pub text_stands : (image : Image) (frames : ℕ) (memory : List ℕ) → need image ≤ frames → take (4096 * frames) memory ≡ boot_ram image frames → part memory 0x100000 (length image.text) ≡ image.text
+pub text_stands : (image : Image) (frames : ℕ) (memory : List ℕ) → need image ≤ frames → take (4096 * frames) memory ≡ boot_ram image frames
+    → part memory 0x100000 (length image.text) ≡ image.text
 text_stands image frames memory fits is =
     let within = text_within image in
     sym (part_front memory (4096 * frames) 0x100000 (length image.text) (omega (arith, within, fits)))
@@ -54,7 +59,8 @@ text_stands image frames memory fits is =
 abbrev first_state : Cpu → List ℕ → Board → State
 first_state cpu ram board = record { cpu = cpu; ram = ram; set = empty; board = board; step = 0 }
 
-pub begun_is : (cpu cpu2 : Cpu) (ram ram2 : List ℕ) (board board2 : Board) → cpu ≡ cpu2 → ram ≡ ram2 → board ≡ board2 → first_state cpu ram board ≡ first_state cpu2 ram2 board2
+pub begun_is : (cpu cpu2 : Cpu) (ram ram2 : List ℕ) (board board2 : Board) → cpu ≡ cpu2 → ram ≡ ram2 → board ≡ board2
+    → first_state cpu ram board ≡ first_state cpu2 ram2 board2
 begun_is cpu cpu2 ram ram2 board board2 p q t = λ i. record { cpu = p i; ram = q i; set = empty; board = t i; step = 0 }
 
 -- what a guest stands for doesn't depend on events

@@ -36,15 +36,18 @@ module _ {S : Type 0} (shows : shadows.Ghosts S) where
   abbrev pub CarriedWith : Setting → S → List ℕ → Set → List Taken → State → Type 0
   CarriedWith m s memory kept steps b = IsCarriedBy shows m steps b kept s memory
 
-  pub with_kept : (m : Setting) (s : S) (memory : List ℕ) (steps : List Taken) (b : State) → IsCarried shows m steps b s memory → CarriedWith m s memory (entries_of (shows.slots s memory)) steps b
+  pub with_kept : (m : Setting) (s : S) (memory : List ℕ) (steps : List Taken) (b : State) → IsCarried shows m steps b s memory
+      → CarriedWith m s memory (entries_of (shows.slots s memory)) steps b
   with_kept m s memory steps b c = record { known = c.known; opened_to = c.opened_to }
 
-  as_kept : (m : Setting) (s : S) (memory : List ℕ) (kept : Set) (steps : List Taken) (b : State) → entries_of (shows.slots s memory) ≡ kept → CarriedWith m s memory kept steps b → IsCarried shows m steps b s memory
+  as_kept : (m : Setting) (s : S) (memory : List ℕ) (kept : Set) (steps : List Taken) (b : State) → entries_of (shows.slots s memory) ≡ kept
+      → CarriedWith m s memory kept steps b → IsCarried shows m steps b s memory
   as_kept m s memory kept steps b is c =
       record { known = subst (IsKnown m steps b (sight shows s memory)) (sym is) c.known; opened_to = c.opened_to }
 
   -- the guest's memory has all its frames
-  pub room_at : (image : Image) (script : Events) (f : ℕ) (g : Running S) (pool : Pool) (memory : List ℕ) → IsHeld shows (ground image f) g pool memory → 4096 * f ≤ length (shown (wedge image script f) memory)
+  pub room_at : (image : Image) (script : Events) (f : ℕ) (g : Running S) (pool : Pool) (memory : List ℕ)
+      → IsHeld shows (ground image f) g pool memory → 4096 * f ≤ length (shown (wedge image script f) memory)
   room_at image script f g pool memory h =
       let long = shown_length (ground image f) h.wedge memory h.host in
       let same = ap (λ (l : List ℕ). length l) (any_script image script f memory) in
@@ -57,12 +60,14 @@ module _ {S : Type 0} (shows : shadows.Ghosts S) where
       left = λ kept steps b c. c.known.left;
       past = λ kept steps t p c. record {
         known = laws.quiet m steps t (sight shows s memory) kept p c.known;
-        opened_to = widens.wider s memory (λ index. is_member eqb (indices_in steps) index) (λ index. is_member eqb (indices_in (steps ++ t ∷ [])) index) (laws.known.grow steps t).0 c.opened_to;
+        opened_to = widens.wider s memory (λ index. is_member eqb (indices_in steps) index)
+            (λ index. is_member eqb (indices_in (steps ++ t ∷ [])) index) (laws.known.grow steps t).0 c.opened_to;
       };
     }
 
     -- over a change of memory elsewhere
-    pub carried_there : (m : Setting) (s s' : S) (memory then : List ℕ) (kept : Set) (steps : List Taken) (b : State) → s' ≡ s → ∥ shows.stands s memory ∥₁ → SameIn (shows.frames s memory) memory then
+    pub carried_there : (m : Setting) (s s' : S) (memory then : List ℕ) (kept : Set) (steps : List Taken) (b : State) → s' ≡ s
+        → ∥ shows.stands s memory ∥₁ → SameIn (shows.frames s memory) memory then
         → CarriedWith m s memory kept steps b → CarriedWith m s' then kept steps b
     carried_there m s s' memory then kept steps b is stand same c =
         subst (λ (x : S). CarriedWith m x then kept steps b) (sym is) (record {
@@ -72,27 +77,35 @@ module _ {S : Type 0} (shows : shadows.Ghosts S) where
         })
 
     -- while the run is roomy few frames are held
-    few_held : (m : Setting) (s : S) (memory : List ℕ) (kept : Set) (steps : List Taken) (b : State) → ∥ shows.stands s memory ∥₁ → Roomy steps → CarriedWith m s memory kept steps b → length (shows.frames s memory) ≤ 400
+    few_held : (m : Setting) (s : S) (memory : List ℕ) (kept : Set) (steps : List Taken) (b : State) → ∥ shows.stands s memory ∥₁
+        → Roomy steps → CarriedWith m s memory kept steps b → length (shows.frames s memory) ≤ 400
     few_held m s memory kept steps b stand roomy c =
-        let many = widens.sized s memory (λ index. is_member eqb (indices_in steps) index) (indices_in steps) stand c.opened_to (λ index lt h. h) in
+        let many = widens.sized s memory (λ index. is_member eqb (indices_in steps) index) (indices_in steps) stand c.opened_to
+        (λ index lt h. h) in
         let few = laws.known.few steps roomy in
         omega (arith, many, few)
 
     -- what one step of the run's own says of what is carried
     abbrev pub Carries : Image → ℕ → Running S → Running S → List ℕ → List ℕ → Pool → Bool → Type 0
     Carries image n old new memory then pool notes_wanted =
-        (script : Events) (steps : List Taken) (t : Taken) → notes_wanted ≡ false → length (free_list pool memory) + old.held ≡ 512 → Roomy (steps ++ t ∷ [])
-        → IsTakenFrom (wedge image script n) (state_of shows (wedge image script n) old memory) t → t.set ≡ left_of new.lost.before (set_of shows old memory)
-        → IsCarried shows (wedge image script n) steps t.before old.shadows memory → IsCarried shows (wedge image script n) (steps ++ t ∷ []) t.after new.shadows then
+        (script : Events) (steps : List Taken) (t : Taken) → notes_wanted ≡ false → length (free_list pool memory) + old.held ≡ 512
+        → Roomy (steps ++ t ∷ [])
+        → IsTakenFrom (wedge image script n) (state_of shows (wedge image script n) old memory) t
+        → t.set ≡ left_of new.lost.before (set_of shows old memory)
+        → IsCarried shows (wedge image script n) steps t.before old.shadows memory
+        → IsCarried shows (wedge image script n) (steps ++ t ∷ []) t.after new.shadows then
 
     abbrev pub Clashed : Image → ℕ → Running S → Running S → List ℕ → Pool → Type 0
     Clashed image n old new memory pool =
-        new.lost.before ≡ true → 8 ≤ length (free_list pool memory) → (script : Events) (b : State) → b.cpu ≡ old.cpu → b.ram ≡ shown (ground image n) memory → b.set ≡ set_of shows old memory
+        new.lost.before ≡ true → 8 ≤ length (free_list pool memory) → (script : Events) (b : State) → b.cpu ≡ old.cpu
+        → b.ram ≡ shown (ground image n) memory → b.set ≡ set_of shows old memory
         → given b.board script b.step ≡ old.board → clashes_from (wedge image script n) b ≡ true
 
     -- the frames that are free and those that are held are as many as at first
-    pub whole_then : (m : Setting) (g now : Running S) (p q : Pool) (memory then : List ℕ) → IsHeld shows m g p memory → IsHeld shows m now q then
-        → Keeps p q memory then (shows.frames g.shadows memory) (shows.frames now.shadows then) → length (free_list p memory) + g.held ≡ 512 → length (free_list q then) + now.held ≡ 512
+    pub whole_then : (m : Setting) (g now : Running S) (p q : Pool) (memory then : List ℕ) → IsHeld shows m g p memory
+        → IsHeld shows m now q then
+        → Keeps p q memory then (shows.frames g.shadows memory) (shows.frames now.shadows then) → length (free_list p memory) + g.held ≡ 512
+        → length (free_list q then) + now.held ≡ 512
     whole_then m g now p q memory then a b k whole =
         let x = a.counted in
         let y = b.counted in
@@ -100,7 +113,8 @@ module _ {S : Type 0} (shows : shadows.Ghosts S) where
         omega (arith, x, y, z, whole)
 
     -- a stretch in which nothing was done, and then one step of the run's own
-    module _ (image : Image) (script : Events) (f : ℕ) (r mid new : Running S) (memory then after : List ℕ) (pool : Pool) (board : Board) (begins : Type 0) (notes_wanted : Bool) where
+    module _ (image : Image) (script : Events) (f : ℕ) (r mid new : Running S) (memory then after : List ℕ) (pool : Pool) (board : Board)
+        (begins : Type 0) (notes_wanted : Bool) where
       abbrev m : Setting
       m = wedge image script f
 
@@ -108,7 +122,8 @@ module _ {S : Type 0} (shows : shadows.Ghosts S) where
       now = state_of shows m r memory
 
       pub drop_clashes : mid.frames ≡ f → state_of shows m mid then ≡ record now { board = board } → board ≡ given r.board script r.step
-          → IsHeld shows (ground image f) r pool memory → IsHeld shows (ground image f) mid pool then → mid.shadows ≡ r.shadows → SameIn (shows.frames r.shadows memory) memory then
+          → IsHeld shows (ground image f) r pool memory → IsHeld shows (ground image f) mid pool then → mid.shadows ≡ r.shadows
+          → SameIn (shows.frames r.shadows memory) memory then
           → (begins → length (free_list pool then) + mid.held ≡ 512) → Clashed image mid.frames mid new then pool
           → DropClashes m now new.lost.before begins (CarriedWith m r.shadows memory)
       drop_clashes same stays events held held_mid shadows apart whole clashed = λ s dropped steps left roomy c.
@@ -126,10 +141,12 @@ module _ {S : Type 0} (shows : shadows.Ghosts S) where
           clashed_at = subst (λ (n : ℕ). Clashed image n mid new then pool) same clashed
 
       pub step_carries : mid.frames ≡ f → state_of shows m mid then ≡ record now { board = board } → board ≡ given r.board script r.step
-          → IsHeld shows (ground image f) r pool memory → IsHeld shows (ground image f) mid pool then → mid.shadows ≡ r.shadows → SameIn (shows.frames r.shadows memory) memory then
+          → IsHeld shows (ground image f) r pool memory → IsHeld shows (ground image f) mid pool then → mid.shadows ≡ r.shadows
+          → SameIn (shows.frames r.shadows memory) memory then
           → (begins → notes_wanted ≡ false) → (begins → length (free_list pool then) + mid.held ≡ 512)
           → Carries image mid.frames mid new then after pool notes_wanted → Clashed image mid.frames mid new then pool
-          → StepCarries m now (state_of shows m new after) new.lost begins (CarriedWith m r.shadows memory) (CarriedWith m new.shadows after)
+          → StepCarries m now (state_of shows m new after) new.lost begins (CarriedWith m r.shadows memory)
+          (CarriedWith m new.shadows after)
       step_carries same stays events held held_mid shadows apart unwanted whole carries clashed = record {
         clash = drop_clashes same stays events held held_mid shadows apart whole clashed;
         over = λ s steps t roomy from set_is c.
@@ -137,7 +154,8 @@ module _ {S : Type 0} (shows : shadows.Ghosts S) where
             let set_same : set_of shows mid then ≡ now.set = ap (λ (x : State). x.set) stays in
             let is : eventful m now ≡ state_of shows m mid then = ap (λ (d : Board). record now { board = d }) (sym events) ∙ sym stays in
             with_kept m new.shadows after (steps ++ t ∷ []) t.after
-            (carries_at script steps t (unwanted s) (whole s) roomy (subst (λ (x : State). IsTakenFrom m x t) is from) (set_is ∙ ap (left_of new.lost.before) (sym set_same))
+            (carries_at script steps t (unwanted s) (whole s) roomy (subst (λ (x : State). IsTakenFrom m x t) is from)
+            (set_is ∙ ap (left_of new.lost.before) (sym set_same))
             (as_kept m mid.shadows then now.set steps t.before set_same there));
       }
         where

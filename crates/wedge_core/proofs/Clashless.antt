@@ -10,10 +10,12 @@ use Rattle.machine_model.specs.Run.{Set}
 use Rattle.machine_model.specs.Clash.{Use, uses_at, is_refused_by, clash_behind, instruction_clashes}
 use Rattle.wedge_step.proofs.Bools.{and_false}
 
-none_clash : (entries : ℕ → Option Entry) (wp : Bool) → ((page : ℕ) → entries page ≡ None) → (used : List ℕ) (us : List Use) → clash_behind entries wp used us ≡ false
+none_clash : (entries : ℕ → Option Entry) (wp : Bool) → ((page : ℕ) → entries page ≡ None) → (used : List ℕ) (us : List Use)
+    → clash_behind entries wp used us ≡ false
 none_clash entries wp none used [] = refl
 none_clash entries wp none used (u ∷ us) =
-    ap (λ (o : Option Entry). (is_among u.page used && is_refused_by o u.access wp) || clash_behind entries wp (u.page ∷ used) us) (none u.page)
+    ap (λ (o : Option Entry). (is_among u.page used && is_refused_by o u.access wp) || clash_behind entries wp (u.page ∷ used) us)
+    (none u.page)
     ∙ ap (λ (b : Bool). b || clash_behind entries wp (u.page ∷ used) us) (and_false (is_among u.page used))
     ∙ none_clash entries wp none (u.page ∷ used) us
 

@@ -23,7 +23,8 @@ use Rattle.wedge_core.specs.Slices.{Counts, CountsOn}
 use Rattle.wedge_core.specs.Views.{is_outside, may_run}
 use Rattle.wedge_step.proofs.Bools.{clash, and_false, or_true}
 
-pub none_counts : (m : Setting) (r : Report) (counts : Counts) → direct_in m.image.sites r.completed ≡ [] → CountsOn m (r ∷ []) counts counts
+pub none_counts : (m : Setting) (r : Report) (counts : Counts) → direct_in m.image.sites r.completed ≡ []
+    → CountsOn m (r ∷ []) counts counts
 none_counts m r counts e =
     let f : direct_addresses m.image.sites (r ∷ []) ≡ [] = ap (λ (l : List ℕ). l ++ []) e in
     let g : length (direct_addresses m.image.sites (r ∷ [])) ≡ 0 = ap (λ (l : List ℕ). length l) f in
@@ -37,7 +38,8 @@ one_counts m r counts eip e =
 
 -- ---- where the host may not run
 
-by_parts : (halted none user out : Bool) → ((not halted && none) && (user || out)) ≡ false → (halted ≡ true) ⊎ ((none ≡ false) ⊎ ((user ≡ false) × (out ≡ false)))
+by_parts : (halted none user out : Bool) → ((not halted && none) && (user || out)) ≡ false → (halted ≡ true)
+    ⊎ ((none ≡ false) ⊎ ((user ≡ false) × (out ≡ false)))
 by_parts true none user out e = inl refl
 by_parts false false user out e = inr (inl refl)
 by_parts false true true out e = absurd (let f : true ≡ false = e in cc)
@@ -62,35 +64,44 @@ not_below eip e = ltb-false eip 0x10000000 e
 
 -- ---- a start
 
-no_start : (text : List ℕ) (m : Setting) (eip : ℕ) → text ≡ m.image.text → places.is_start text (eip - 0x10000000) ≡ false → is_start m.image eip ≡ false
+no_start : (text : List ℕ) (m : Setting) (eip : ℕ) → text ≡ m.image.text → places.is_start text (eip - 0x10000000) ≡ false
+    → is_start m.image eip ≡ false
 unfolding places.is_start
 no_start text m eip is e =
-    ap (λ x. nat_le 0x10000000 eip && x) (ap (λ t. is_among (eip - 0x10000000) (Rattle.image_check.specs.Sweep.starts_of t)) (sym is) ∙ e) ∙ and_false (nat_le 0x10000000 eip)
+    ap (λ x. nat_le 0x10000000 eip && x) (ap (λ t. is_among (eip - 0x10000000) (Rattle.image_check.specs.Sweep.starts_of t)) (sym is) ∙ e)
+    ∙ and_false (nat_le 0x10000000 eip)
 
-no_stand : (m : Setting) (b : State) → m.mode ≡ wedge_mode m.image → b.cpu.cpl ≡ 0 → is_start m.image b.cpu.regs.eip ≡ false → stands_well m b.cpu ≡ false
+no_stand : (m : Setting) (b : State) → m.mode ≡ wedge_mode m.image → b.cpu.cpl ≡ 0 → is_start m.image b.cpu.regs.eip ≡ false
+    → stands_well m b.cpu ≡ false
 no_stand m b mode level e =
     ap (λ (x : Mode). may_begin x m.image b.cpu.regs.eip || not (b.cpu.cpl == 0)) mode
     ∙ (ap (λ (x : Bool). x || not (b.cpu.cpl == 0)) e ∙ ap (λ (x : ℕ). not (x == 0)) level)
 
 -- ---- a site
 
-lies : (s : Site) (eip : ℕ) → 0x10000000 ≤ eip → lies_in (eip - 0x10000000) s ≡ true → (nat_le (0x10000000 + s.at) eip && nat_lt eip (0x10000000 + s.at + s.total)) ≡ true
+lies : (s : Site) (eip : ℕ) → 0x10000000 ≤ eip → lies_in (eip - 0x10000000) s ≡ true
+    → (nat_le (0x10000000 + s.at) eip && nat_lt eip (0x10000000 + s.at + s.total)) ≡ true
 lies s eip above e =
     let tests = and_parts (nat_le s.at (eip - 0x10000000)) (nat_lt (eip - 0x10000000) (s.at + s.total)) e in
     let from = leb-true s.at (eip - 0x10000000) tests.0 in
     let to = ltb-true (eip - 0x10000000) (s.at + s.total) tests.1 in
-    and_from (nat_le (0x10000000 + s.at) eip) (nat_lt eip (0x10000000 + s.at + s.total)) (le-leb (0x10000000 + s.at) eip (omega (arith, above, from))) (lt-ltb eip (0x10000000 + s.at + s.total) (omega (arith, above, to)))
+    and_from (nat_le (0x10000000 + s.at) eip) (nat_lt eip (0x10000000 + s.at + s.total))
+    (le-leb (0x10000000 + s.at) eip (omega (arith, above, from))) (lt-ltb eip (0x10000000 + s.at + s.total) (omega (arith, above, to)))
 
-in_some : (sites : List Site) (eip : ℕ) (s : Site) → 0x10000000 ≤ eip → find (lies_in (eip - 0x10000000)) sites ≡ Some s → is_site_at sites eip ≡ true
+in_some : (sites : List Site) (eip : ℕ) (s : Site) → 0x10000000 ≤ eip → find (lies_in (eip - 0x10000000)) sites ≡ Some s
+    → is_site_at sites eip ≡ true
 in_some [] eip s above e = absurd (let f : ◌≡◌ {A = Option Site} None (Some s) = e in cc)
 in_some (t ∷ ts) eip s above e = by_test (lies_in (eip - 0x10000000) t) refl e (in_some ts eip s above)
   where
-    by_test : (c : Bool) → lies_in (eip - 0x10000000) t ≡ c → cond {A = Option Site} c (Some t) (find (lies_in (eip - 0x10000000)) ts) ≡ Some s
+    by_test : (c : Bool) → lies_in (eip - 0x10000000) t ≡ c
+        → cond {A = Option Site} c (Some t) (find (lies_in (eip - 0x10000000)) ts) ≡ Some s
         → (find (lies_in (eip - 0x10000000)) ts ≡ Some s → is_site_at ts eip ≡ true) → is_site_at (t ∷ ts) eip ≡ true
     by_test true is g h = ap (λ (x : Bool). x || is_site_at ts eip) (lies t eip above is)
-    by_test false is g h = ap (λ (x : Bool). (nat_le (0x10000000 + t.at) eip && nat_lt eip (0x10000000 + t.at + t.total)) || x) (h g) ∙ or_true (nat_le (0x10000000 + t.at) eip && nat_lt eip (0x10000000 + t.at + t.total))
+    by_test false is g h = ap (λ (x : Bool). (nat_le (0x10000000 + t.at) eip && nat_lt eip (0x10000000 + t.at + t.total)) || x) (h g)
+        ∙ or_true (nat_le (0x10000000 + t.at) eip && nat_lt eip (0x10000000 + t.at + t.total))
 
-inside : (sites : List Site) (eip : ℕ) (s : Site) → 0x10000000 ≤ eip → site_at sites (eip - 0x10000000) ≡ Some s → is_site_at sites eip ≡ true
+inside : (sites : List Site) (eip : ℕ) (s : Site) → 0x10000000 ≤ eip → site_at sites (eip - 0x10000000) ≡ Some s
+    → is_site_at sites eip ≡ true
 unfolding site_at
 inside sites eip s above e = in_some sites eip s above e
 
@@ -100,29 +111,38 @@ level_0 : (cpl : ℕ) → IsLevel cpl → (cpl == 3) ≡ false → cpl ≡ 0
 level_0 cpl (inl z) e = z
 level_0 cpl (inr u) e = absurd (clash (cpl == 3) (ap (λ x. x == 3) u) e)
 
-module _ (done : StepsAreDone) (waits : WaitsCountNothing) (sites : SitesCountNothing) (m : Setting) (b : State) (report : Report) (after : State) (went : stepped m b ≡ Went report after) where
+module _ (done : StepsAreDone) (waits : WaitsCountNothing) (sites : SitesCountNothing) (m : Setting) (b : State) (report : Report)
+    (after : State) (went : stepped m b ≡ Went report after) where
   waiting : (b.cpu.halted ≡ true) ⊎ (is_some (interrupt_of b.cpu b.board) ≡ true) → direct_in m.image.sites report.completed ≡ []
   waiting h = ap (direct_in m.image.sites) (waits m b report after h went)
 
   unstarted : stands_well m b.cpu ≡ false → direct_in m.image.sites report.completed ≡ []
-  unstarted e = ap (direct_in m.image.sites) (never report.completed (λ c is. let d = done m b report after went c is in clash (stands_well m b.cpu) d.stands e))
+  unstarted e =
+      ap (direct_in m.image.sites)
+      (never report.completed (λ c is. let d = done m b report after went c is in clash (stands_well m b.cpu) d.stands e))
 
-  at_0 : m.mode ≡ wedge_mode m.image → IsLevel b.cpu.cpl → (b.cpu.cpl == 3) ≡ false → is_outside (place_at m.image b.cpu.regs.eip) ≡ false → direct_in m.image.sites report.completed ≡ []
+  at_0 : m.mode ≡ wedge_mode m.image → IsLevel b.cpu.cpl → (b.cpu.cpl == 3) ≡ false → is_outside (place_at m.image b.cpu.regs.eip) ≡ false
+      → direct_in m.image.sites report.completed ≡ []
   unfolding places.is_start
   at_0 mode level kernel out =
       let eip = b.cpu.regs.eip in
       let zero = level_0 b.cpu.cpl level kernel in
-      elim (placed (nat_lt eip 0x10000000) (places.is_start m.image.text (eip - 0x10000000)) (site_at m.image.sites (eip - 0x10000000)) out) [
-        | inl low ↦ unstarted (no_stand m b mode zero (ap (λ (x : Bool). x && is_among (eip - 0x10000000) (Rattle.image_check.specs.Sweep.starts_of m.image.text)) (not_above eip low)))
+      elim (placed (nat_lt eip 0x10000000) (places.is_start m.image.text (eip - 0x10000000))
+      (site_at m.image.sites (eip - 0x10000000)) out) [
+        | inl low ↦ unstarted (no_stand m b mode zero
+            (ap (λ (x : Bool). x && is_among (eip - 0x10000000) (Rattle.image_check.specs.Sweep.starts_of m.image.text))
+            (not_above eip low)))
         | inr h ↦ elim h [
           | inl start ↦ unstarted (no_stand m b mode zero (no_start m.image.text m eip refl start))
           | inr k ↦ sites m b report after m.image.sites kernel (inside m.image.sites eip k.1.0 (not_below eip k.0) k.1.1) went
         ]
       ]
 
-  pub none_direct : m.mode ≡ wedge_mode m.image → IsLevel b.cpu.cpl → may_run b.cpu b.board m.image ≡ false → direct_in m.image.sites report.completed ≡ []
+  pub none_direct : m.mode ≡ wedge_mode m.image → IsLevel b.cpu.cpl → may_run b.cpu b.board m.image ≡ false
+      → direct_in m.image.sites report.completed ≡ []
   none_direct mode level may =
-      elim (by_parts b.cpu.halted (is_none (interrupt_of b.cpu b.board)) (b.cpu.cpl == 3) (is_outside (place_at m.image b.cpu.regs.eip)) may) [
+      elim (by_parts b.cpu.halted (is_none (interrupt_of b.cpu b.board)) (b.cpu.cpl == 3)
+      (is_outside (place_at m.image b.cpu.regs.eip)) may) [
         | inl halted ↦ waiting (inl halted)
         | inr h ↦ elim h [
           | inl takes ↦ waiting (inr (some_of (interrupt_of b.cpu b.board) takes))

@@ -58,11 +58,14 @@ step_up_to : (n : ℕ) (note : Note) → IsUpTo n note → step_in note ≤ n
 step_up_to n (emptied_at step) h = h
 step_up_to n (dropped_at step page) h = absurd h
 
-ordered_more : (b : Bool) (low n : ℕ) (notes : List Note) → low ≤ n → All (IsUpTo n) notes → is_ordered low notes ≡ true → is_ordered low (notes ++ emptied_if b n) ≡ true
+ordered_more : (b : Bool) (low n : ℕ) (notes : List Note) → low ≤ n → All (IsUpTo n) notes → is_ordered low notes ≡ true
+    → is_ordered low (notes ++ emptied_if b n) ≡ true
 ordered_more b low n [] le up h = low_first b low n le
 ordered_more b low n (x ∷ xs) le up h =
-    and_from (nat_le low (step_in x)) (is_ordered (step_in x) (xs ++ emptied_if b n)) (and_parts (nat_le low (step_in x)) (is_ordered (step_in x) xs) h).0
-    (ordered_more b (step_in x) n xs (step_up_to n x (All-head (IsUpTo n) x xs up)) (All-tail (IsUpTo n) x xs up) (and_parts (nat_le low (step_in x)) (is_ordered (step_in x) xs) h).1)
+    and_from (nat_le low (step_in x)) (is_ordered (step_in x) (xs ++ emptied_if b n))
+    (and_parts (nat_le low (step_in x)) (is_ordered (step_in x) xs) h).0
+    (ordered_more b (step_in x) n xs (step_up_to n x (All-head (IsUpTo n) x xs up)) (All-tail (IsUpTo n) x xs up)
+    (and_parts (nat_le low (step_in x)) (is_ordered (step_in x) xs) h).1)
 
 -- ---- how many there are of a step
 
@@ -74,8 +77,10 @@ count_join s xs ys =
 count_if : (b : Bool) (s n : ℕ) → notes_of s (emptied_if b n) ≤ 1
 count_if true s n =
     elim (eqb_tells n s) [
-      | inl e ↦ let is : notes_of s (emptied_at n ∷ []) ≡ 1 = ap (λ (x : Bool). length (cond {A = List Note} x (emptied_at n ∷ []) [])) e.0 in omega (arith, is)
-      | inr o ↦ let is : notes_of s (emptied_at n ∷ []) ≡ 0 = ap (λ (x : Bool). length (cond {A = List Note} x (emptied_at n ∷ []) [])) o.0 in omega (arith, is)
+      | inl e ↦ let is : notes_of s (emptied_at n ∷ []) ≡ 1 =
+          ap (λ (x : Bool). length (cond {A = List Note} x (emptied_at n ∷ []) [])) e.0 in omega (arith, is)
+      | inr o ↦ let is : notes_of s (emptied_at n ∷ []) ≡ 0 =
+          ap (λ (x : Bool). length (cond {A = List Note} x (emptied_at n ∷ []) [])) o.0 in omega (arith, is)
     ]
 count_if false s n = omega arith
 
@@ -94,14 +99,17 @@ none_above : (n s : ℕ) (notes : List Note) → n < s → All (IsUpTo n) notes 
 none_above n s [] lt h = refl
 none_above n s (x ∷ xs) lt h =
     let le = step_up_to n x (All-head (IsUpTo n) x xs h) in
-    ap (λ (b : Bool). length (cond {A = List Note} b (x ∷ filter (λ (note : Note). step_in note == s) xs) (filter (λ (note : Note). step_in note == s) xs))) (not_equal (step_in x) s (omega (arith, le, lt)))
+    ap (λ (b : Bool). length
+    (cond {A = List Note} b (x ∷ filter (λ (note : Note). step_in note == s) xs) (filter (λ (note : Note). step_in note == s) xs)))
+    (not_equal (step_in x) s (omega (arith, le, lt)))
     ∙ none_above n s xs lt (All-tail (IsUpTo n) x xs h)
 
 pub none_yet : (first : ℕ) → SoFar first first []
 none_yet first = record { ordered = refl; until = All-nil (IsUpTo first); few = λ step. omega arith; next = omega arith }
 
 -- a step is tried
-pub try_next : (b : Bool) (first now : ℕ) (notes : List Note) → first ≤ now → SoFar first now notes → TriedNotes first now (notes ++ emptied_if b now)
+pub try_next : (b : Bool) (first now : ℕ) (notes : List Note) → first ≤ now → SoFar first now notes
+    → TriedNotes first now (notes ++ emptied_if b now)
 try_next b first now notes le h = record {
   ordered = ordered_more b first now notes le h.until h.ordered;
   until = up_to_more b now notes h.until;
@@ -118,7 +126,8 @@ try_next b first now notes le h = record {
 }
 
 -- and went
-pub go_next : (b : Bool) (first now : ℕ) (notes : List Note) → first ≤ now → TriedNotes first now notes → SoFar first (now + 1) (notes ++ emptied_if b (now + 1))
+pub go_next : (b : Bool) (first now : ℕ) (notes : List Note) → first ≤ now → TriedNotes first now notes
+    → SoFar first (now + 1) (notes ++ emptied_if b (now + 1))
 go_next b first now notes le h =
     let up = up_to_later now (now + 1) notes (omega arith) h.until in
     let above = none_above now (now + 1) notes (omega arith) h.until in
@@ -135,7 +144,8 @@ go_next b first now notes le h =
                 omega (arith, join, one, none)
             | inr o ↦ let none = count_other b step (now + 1) o.0 in omega (arith, join, none, few)
           ];
-      next = (let join = count_join (now + 1) notes (emptied_if b (now + 1)) in let one = count_if b (now + 1) (now + 1) in omega (arith, join, one, above));
+      next = (let join = count_join (now + 1) notes (emptied_if b (now + 1)) in let one = count_if b (now + 1) (now + 1) in
+          omega (arith, join, one, above));
     }
 
 -- nothing is reported of some steps
@@ -183,14 +193,16 @@ without_none n s set [] h = refl
 without_none n s set (emptied_at step ∷ xs) h = without_none n s set xs (All-tail (IsUpTo n) (emptied_at step) xs h)
 without_none n s set (dropped_at step page ∷ xs) h = absurd (All-head (IsUpTo n) (dropped_at step page) xs h)
 
-pub told_is : (n s : ℕ) (set : Set) (notes : List Note) → All (IsUpTo n) notes → set_told notes s set ≡ left_of (list_any (is_emptied s) notes) set
+pub told_is : (n s : ℕ) (set : Set) (notes : List Note) → All (IsUpTo n) notes
+    → set_told notes s set ≡ left_of (list_any (is_emptied s) notes) set
 told_is n s set notes h = ap (λ (x : Set). left_of (list_any (is_emptied s) notes) x) (without_none n s set notes h)
 
 none_emptied : (n s : ℕ) (notes : List Note) → n < s → All (IsUpTo n) notes → list_any (is_emptied s) notes ≡ false
 none_emptied n s [] lt h = refl
 none_emptied n s (emptied_at step ∷ xs) lt h =
     let le : step ≤ n = All-head (IsUpTo n) (emptied_at step) xs h in
-    ap (λ (b : Bool). b || list_any (is_emptied s) xs) (not_equal step s (omega (arith, le, lt))) ∙ none_emptied n s xs lt (All-tail (IsUpTo n) (emptied_at step) xs h)
+    ap (λ (b : Bool). b || list_any (is_emptied s) xs) (not_equal step s (omega (arith, le, lt)))
+    ∙ none_emptied n s xs lt (All-tail (IsUpTo n) (emptied_at step) xs h)
 none_emptied n s (dropped_at step page ∷ xs) lt h = absurd (All-head (IsUpTo n) (dropped_at step page) xs h)
 
 -- of a later step nothing was reported yet
@@ -211,10 +223,12 @@ left_either true false set = refl
 left_either false b set = refl
 
 -- of the next step one more thing is reported
-pub told_more : (b : Bool) (n : ℕ) (set : Set) (notes : List Note) → All (IsUpTo n) notes → set_told (notes ++ emptied_if b n) n set ≡ left_of b (set_told notes n set)
+pub told_more : (b : Bool) (n : ℕ) (set : Set) (notes : List Note) → All (IsUpTo n) notes
+    → set_told (notes ++ emptied_if b n) n set ≡ left_of b (set_told notes n set)
 told_more b n set notes h =
     told_is n n set (notes ++ emptied_if b n) (up_to_more b n notes h)
-    ∙ (ap (λ (x : Bool). left_of x set) (list_any-append (is_emptied n) notes (emptied_if b n) ∙ ap (λ (x : Bool). list_any (is_emptied n) notes || x) (any_if b n))
+    ∙ (ap (λ (x : Bool). left_of x set)
+    (list_any-append (is_emptied n) notes (emptied_if b n) ∙ ap (λ (x : Bool). list_any (is_emptied n) notes || x) (any_if b n))
     ∙ (left_either (list_any (is_emptied n) notes) b set ∙ ap (left_of b) (sym (told_is n n set notes h))))
 
 or_none : (a b : Bool) → b ≡ false → (a || b) ≡ a
@@ -222,8 +236,10 @@ or_none true b h = refl
 or_none false b h = h
 
 -- which says nothing of those before
-pub told_before : (b : Bool) (n s : ℕ) (set : Set) (notes : List Note) → s < n → All (IsUpTo n) notes → set_told (notes ++ emptied_if b n) s set ≡ set_told notes s set
+pub told_before : (b : Bool) (n s : ℕ) (set : Set) (notes : List Note) → s < n → All (IsUpTo n) notes
+    → set_told (notes ++ emptied_if b n) s set ≡ set_told notes s set
 told_before b n s set notes lt h =
     told_is n s set (notes ++ emptied_if b n) (up_to_more b n notes h)
-    ∙ (ap (λ (x : Bool). left_of x set) (list_any-append (is_emptied s) notes (emptied_if b n) ∙ or_none (list_any (is_emptied s) notes) (list_any (is_emptied s) (emptied_if b n)) (any_other b s n lt))
+    ∙ (ap (λ (x : Bool). left_of x set) (list_any-append (is_emptied s) notes (emptied_if b n) ∙ or_none (list_any (is_emptied s) notes)
+    (list_any (is_emptied s) (emptied_if b n)) (any_other b s n lt))
     ∙ sym (told_is n s set notes h))

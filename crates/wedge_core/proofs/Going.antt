@@ -52,7 +52,8 @@ EachFilled pages before after sets = All (λ (set : Set). CountsFills pages (len
 -- Some steps were done. Where the run begins so, they followed the rule for kept translations, and all is known after them
 -- while it is roomy. What is kept a run may go on with; where notes are wanted, it is what they left, but for what the
 -- notes report, by which they went too. Their lines were put, and the counts follow.
-pub record Going (m : Setting) (old now : State) (before after : Counts) (told tells : Option (List ℕ)) (pages fills filled : ℕ) (notes_wanted : Bool) (notes_on : List Note → Type 0) (begins : Type 0) (carried : Set → List Taken → State → Type 0) : Type 0 where
+pub record Going (m : Setting) (old now : State) (before after : Counts) (told tells : Option (List ℕ)) (pages fills filled : ℕ)
+    (notes_wanted : Bool) (notes_on : List Note → Type 0) (begins : Type 0) (carried : Set → List Taken → State → Type 0) : Type 0 where
   pub sets : List Set
   pub reports : List Report
   pub whole : Set
@@ -74,7 +75,9 @@ pub record Going (m : Setting) (old now : State) (before after : Counts) (told t
 kept_none : (m : Setting) (b : State) → Kept m b []
 kept_none m b = record { each = λ front set back reports now is there roomy. absurd (none_some front set back is) }
 
-pub going_none : (m : Setting) (b : State) (counts : Counts) (told : Option (List ℕ)) (pages fills : ℕ) (notes_wanted : Bool) (notes_on : List Note → Type 0) (begins : Type 0) (carried : Set → List Taken → State → Type 0) → notes_on [] → len b.set ≤ pages → (begins → carried b.set [] b) → Going m b b counts counts told told pages fills fills notes_wanted notes_on begins carried
+pub going_none : (m : Setting) (b : State) (counts : Counts) (told : Option (List ℕ)) (pages fills : ℕ) (notes_wanted : Bool)
+    (notes_on : List Note → Type 0) (begins : Type 0) (carried : Set → List Taken → State → Type 0) → notes_on [] → len b.set ≤ pages
+    → (begins → carried b.set [] b) → Going m b b counts counts told told pages fills fills notes_wanted notes_on begins carried
 going_none m b counts told pages fills notes_wanted notes_on begins carried none few start = record {
   sets = [];
   reports = [];
@@ -95,19 +98,24 @@ going_none m b counts told pages fills notes_wanted notes_on begins carried none
 }
 
 -- none of them is after the first
-pub none_behind : (m : Setting) (old now : State) (a b : Counts) (told tells : Option (List ℕ)) (pages fills filled : ℕ) (notes_wanted : Bool) (notes_on : List Note → Type 0) (begins : Type 0) (carried : Set → List Taken → State → Type 0) → (g : Going m old now a b told tells pages fills filled notes_wanted notes_on begins carried) → old.step + length g.sets ≡ now.step
-none_behind m old now a b told tells pages fills filled notes_wanted notes_on begins carried g = sym (steps_counted m old g.sets g.reports (with_set now g.whole) g.steps)
+pub none_behind : (m : Setting) (old now : State) (a b : Counts) (told tells : Option (List ℕ)) (pages fills filled : ℕ)
+    (notes_wanted : Bool) (notes_on : List Note → Type 0) (begins : Type 0) (carried : Set → List Taken → State → Type 0)
+    → (g : Going m old now a b told tells pages fills filled notes_wanted notes_on begins carried) → old.step + length g.sets ≡ now.step
+none_behind m old now a b told tells pages fills filled notes_wanted notes_on begins carried g =
+    sym (steps_counted m old g.sets g.reports (with_set now g.whole) g.steps)
 
 -- what is left of a set is part of it
 told_part : (b : Bool) (set : Set) → IsPartOf (left_of b set) set
 told_part b set = part_left b (left_of b set) set refl
 
-filled_later : (pages before mid after : ℕ) (sets : List Set) → mid ≤ after → EachFilled pages before mid sets → EachFilled pages before after sets
+filled_later : (pages before mid after : ℕ) (sets : List Set) → mid ≤ after → EachFilled pages before mid sets
+    → EachFilled pages before after sets
 filled_later pages before mid after sets le h =
     All-weaker (λ (set : Set). CountsFills pages (len set) before mid) (λ (set : Set). CountsFills pages (len set) before after)
     (λ set f. let r = f.rises in let e = f.enough in record { rises = omega (arith, r, le); enough = omega (arith, e, le) }) sets h
 
-filled_push : (pages before after : ℕ) (sets : List Set) (set : Set) → EachFilled pages before after sets → CountsFills pages (len set) before after → EachFilled pages before after (sets ++ set ∷ [])
+filled_push : (pages before after : ℕ) (sets : List Set) (set : Set) → EachFilled pages before after sets
+    → CountsFills pages (len set) before after → EachFilled pages before after (sets ++ set ∷ [])
 filled_push pages before after sets set h f =
     let P = λ (x : Set). CountsFills pages (len x) before after in
     All-append P sets (set ∷ []) h (All-cons P set [] f (All-nil P))
@@ -120,10 +128,15 @@ enough_later pages few before mid after le f =
 
 -- steps in which nothing is seen
 
-pub going_past : (m : Setting) (old now new : State) (a b c : Counts) (told tells : Option (List ℕ)) (pages fills mid filled : ℕ) (notes_wanted : Bool) (notes_on : List Note → Type 0) (begins : Type 0) (carried : Set → List Taken → State → Type 0) → (g : Going m old now a b told tells pages fills mid notes_wanted notes_on begins carried) → mid ≤ filled → CountsFills pages (len new.set) fills filled
-    → CarryLaws → CarriesPast m carried → 4096 * m.frames ≤ length now.ram → Passes m now new b c → Going m old new a c told tells pages fills filled notes_wanted notes_on begins carried
+pub going_past : (m : Setting) (old now new : State) (a b c : Counts) (told tells : Option (List ℕ)) (pages fills mid filled : ℕ)
+    (notes_wanted : Bool) (notes_on : List Note → Type 0) (begins : Type 0) (carried : Set → List Taken → State → Type 0)
+    → (g : Going m old now a b told tells pages fills mid notes_wanted notes_on begins carried) → mid ≤ filled
+    → CountsFills pages (len new.set) fills filled
+    → CarryLaws → CarriesPast m carried → 4096 * m.frames ≤ length now.ram → Passes m now new b c
+    → Going m old new a c told tells pages fills filled notes_wanted notes_on begins carried
 unfolding Steps
-going_past m old now new a b c told tells pages fills mid filled notes_wanted notes_on begins carried g rises enough laws goes room p = by p.n p.steps p.sets p.quiet
+going_past m old now new a b c told tells pages fills mid filled notes_wanted notes_on begins carried g rises enough laws goes room p =
+    by p.n p.steps p.sets p.quiet
   where
     silent : trace_of (g.reports ++ p.reports) ≡ trace_of g.reports
     silent = trace_join g.reports p.reports ∙ (ap (λ (l : List Item). trace_of g.reports ++ l) p.silent ∙ append-nil (trace_of g.reports))
@@ -131,7 +144,9 @@ going_past m old now new a b c told tells pages fills mid filled notes_wanted no
     put : Appends told tells (lines_of (trace_of (g.reports ++ p.reports)))
     put = subst (λ (l : List Item). Appends told tells (lines_of l)) (sym silent) g.text
 
-    by : (n : ℕ) → Steps m now (replicate n now.set) p.reports new → AreLeft m now (replicate n now.set) → All IsQuiet (steps_by m now (replicate n now.set)) → Going m old new a c told tells pages fills filled notes_wanted notes_on begins carried
+    by : (n : ℕ) → Steps m now (replicate n now.set) p.reports new → AreLeft m now (replicate n now.set)
+        → All IsQuiet (steps_by m now (replicate n now.set)) → Going m old new a c told tells pages fills filled notes_wanted
+        notes_on begins carried
     by zero steps left quiet =
         let same : g.reports ++ p.reports ≡ g.reports = ap (λ (l : List Report). g.reports ++ l) steps.0 ∙ append-nil g.reports in
         record {
@@ -139,7 +154,8 @@ going_past m old now new a b c told tells pages fills mid filled notes_wanted no
           reports = g.reports ++ p.reports;
           whole = g.whole;
           notes = g.notes;
-          steps = subst (λ (l : List Report). Steps m old g.sets l (with_set new g.whole)) (sym same) (subst (λ (x : State). Steps m old g.sets g.reports (with_set x g.whole)) (sym steps.1) g.steps);
+          steps = subst (λ (l : List Report). Steps m old g.sets l (with_set new g.whole)) (sym same)
+              (subst (λ (x : State). Steps m old g.sets g.reports (with_set x g.whole)) (sym steps.1) g.steps);
           allowed = subst (λ (x : State). Loosened m (with_set x g.whole) x.set) (sym steps.1) g.allowed;
           kept = λ w. subst (λ (x : State). x.set ≡ set_told g.notes x.step g.whole) (sym steps.1) (g.kept w);
           by = g.by;
@@ -147,21 +163,28 @@ going_past m old now new a b c told tells pages fills mid filled notes_wanted no
           tells_notes = g.tells_notes;
           each_filled = filled_later pages fills mid filled g.sets rises g.each_filled;
           rule = g.rule;
-          carries = λ s roomy. subst (λ (x : State). carried x.set (steps_by m old g.sets) (with_set x g.whole)) (sym steps.1) (g.carries s roomy);
+          carries = λ s roomy. subst (λ (x : State). carried x.set (steps_by m old g.sets) (with_set x g.whole)) (sym steps.1)
+              (g.carries s roomy);
           enough = enough;
           text = put;
           counts = counts_join m g.reports p.reports a b c g.counts p.counts;
         }
     by (suc n) steps left quiet =
-        let both : All IsQuiet (step_taken now now.set steps.1 steps.0 ∷ steps_by m steps.0 (replicate n now.set)) = subst (All IsQuiet) (taken_first m now steps.0 now.set (replicate n now.set) steps.1 steps.4) quiet in
+        let both : All IsQuiet (step_taken now now.set steps.1 steps.0 ∷ steps_by m steps.0 (replicate n now.set)) =
+        subst (All IsQuiet) (taken_first m now steps.0 now.set (replicate n now.set) steps.1 steps.4) quiet in
         let q = All-head IsQuiet (step_taken now now.set steps.1 steps.0) (steps_by m steps.0 (replicate n now.set)) both in
-        let one : IsQuiet (step_taken (with_set now g.whole) now.set steps.1 steps.0) = record { through = q.through; cr0 = q.cr0; cr3 = q.cr3; cr4 = q.cr4; size = q.size } in
-        let so_far = λ (s : begins). some_more laws m carried goes old n g.sets g.reports (with_set now g.whole) steps.0 new now.set steps.1 steps.2
+        let one : IsQuiet (step_taken (with_set now g.whole) now.set steps.1 steps.0) =
+        record { through = q.through; cr0 = q.cr0; cr3 = q.cr3; cr4 = q.cr4; size = q.size } in
+        let so_far =
+        λ (s : begins). some_more laws m carried goes old n g.sets g.reports (with_set now g.whole) steps.0 new now.set steps.1 steps.2
         g.steps g.allowed (same_step m now g.whole now.set ∙ steps.4) steps.5 (left.1 steps.1 steps.0 steps.4) one
-        (All-tail IsQuiet (step_taken now now.set steps.1 steps.0) (steps_by m steps.0 (replicate n now.set)) both) room (record { rule = g.rule s; carries = g.carries s }) in
+        (All-tail IsQuiet (step_taken now now.set steps.1 steps.0) (steps_by m steps.0 (replicate n now.set)) both) room
+        (record { rule = g.rule s; carries = g.carries s }) in
         let count = steps_counted m now (replicate (suc n) now.set) p.reports new steps in
         let later : now.step < new.step = omega (arith, count) in
-        let first : EachFilled pages fills filled (replicate (suc n) now.set) = All-replicate (λ (set : Set). CountsFills pages (len set) fills filled) (suc n) now.set (enough_later pages (len now.set) fills mid filled rises g.enough) in
+        let first : EachFilled pages fills filled (replicate (suc n) now.set) =
+        All-replicate (λ (set : Set). CountsFills pages (len set) fills filled) (suc n) now.set
+        (enough_later pages (len now.set) fills mid filled rises g.enough) in
         record {
           sets = g.sets ++ replicate (suc n) now.set;
           reports = g.reports ++ p.reports;
@@ -171,10 +194,12 @@ going_past m old now new a b c told tells pages fills mid filled notes_wanted no
               (steps.0, steps.1, steps.2, g.allowed, same_step m now g.whole now.set ∙ steps.4, steps.5, steps.6);
           allowed = part_allowed m (with_set new new.set) new.set (part_same new.set new.set refl);
           kept = λ w. sym (told_none now.step new.step new.set g.notes later g.so_far.until);
-          by = λ w. told_join m old (with_set now g.whole) g.sets (replicate (suc n) now.set) g.reports g.notes g.steps (g.by w) (left_behind m now g.whole (replicate (suc n) now.set) g.notes (g.kept w) g.so_far.until left);
+          by = λ w. told_join m old (with_set now g.whole) g.sets (replicate (suc n) now.set) g.reports g.notes g.steps (g.by w)
+              (left_behind m now g.whole (replicate (suc n) now.set) g.notes (g.kept w) g.so_far.until left);
           so_far = so_far_later old.step now.step new.step g.notes later g.so_far;
           tells_notes = g.tells_notes;
-          each_filled = All-append (λ (set : Set). CountsFills pages (len set) fills filled) g.sets (replicate (suc n) now.set) (filled_later pages fills mid filled g.sets rises g.each_filled) first;
+          each_filled = All-append (λ (set : Set). CountsFills pages (len set) fills filled) g.sets (replicate (suc n) now.set)
+              (filled_later pages fills mid filled g.sets rises g.each_filled) first;
           rule = λ s. (so_far s).rule;
           carries = λ s. (so_far s).carries;
           enough = enough;
@@ -183,8 +208,11 @@ going_past m old now new a b c told tells pages fills mid filled notes_wanted no
         }
 
 -- the same, in other words of what is known
-pub going_turned : (m : Setting) (old now : State) (a b : Counts) (told tells : Option (List ℕ)) (pages fills filled : ℕ) (notes_wanted : Bool) (notes_on : List Note → Type 0) (begins : Type 0) (carried carried_then : Set → List Taken → State → Type 0)
-    → ((steps : List Taken) (x : State) → carried now.set steps x → carried_then now.set steps x) → Going m old now a b told tells pages fills filled notes_wanted notes_on begins carried → Going m old now a b told tells pages fills filled notes_wanted notes_on begins carried_then
+pub going_turned : (m : Setting) (old now : State) (a b : Counts) (told tells : Option (List ℕ)) (pages fills filled : ℕ)
+    (notes_wanted : Bool) (notes_on : List Note → Type 0) (begins : Type 0) (carried carried_then : Set → List Taken → State → Type 0)
+    → ((steps : List Taken) (x : State) → carried now.set steps x → carried_then now.set steps x)
+    → Going m old now a b told tells pages fills filled notes_wanted notes_on begins carried
+    → Going m old now a b told tells pages fills filled notes_wanted notes_on begins carried_then
 going_turned m old now a b told tells pages fills filled notes_wanted notes_on begins carried carried_then turn g = record {
   sets = g.sets;
   reports = g.reports;
@@ -209,7 +237,9 @@ abbrev pub eventful : Setting → State → State
 eventful m b = record b { board = given b.board m.script b.step }
 
 -- Some steps were done, and one more. Of its lines something was put.
-pub record Stepped (m : Setting) (old now new : State) (seen : Seen) (before after : Counts) (told tells : Option (List ℕ)) (pages fills filled : ℕ) (notes_wanted : Bool) (notes_on : List Note → Type 0) (begins : Type 0) (carried : Set → List Taken → State → Type 0) : Type 0 where
+pub record Stepped (m : Setting) (old now new : State) (seen : Seen) (before after : Counts) (told tells : Option (List ℕ))
+    (pages fills filled : ℕ) (notes_wanted : Bool) (notes_on : List Note → Type 0) (begins : Type 0)
+    (carried : Set → List Taken → State → Type 0) : Type 0 where
   pub sets : List Set
   pub reports : List Report
   pub whole : Set
@@ -230,12 +260,15 @@ pub record Stepped (m : Setting) (old now new : State) (seen : Seen) (before aft
   pub counts : CountsOn m reports before after
 
 -- a step by what was chosen before its events were given
-chosen_first : (m : Setting) (now : State) (whole chosen : Set) → step_of m (with_set now whole) chosen ≡ stepped m (with_set (eventful m now) chosen)
+chosen_first : (m : Setting) (now : State) (whole chosen : Set) → step_of m (with_set now whole) chosen ≡ stepped m
+    (with_set (eventful m now) chosen)
 unfolding step_of
 chosen_first m now whole chosen = refl
 
 -- the next step is tried, before which all translations may have been dropped
-module _ (m : Setting) (old now : State) (a b : Counts) (told tells : Option (List ℕ)) (pages fills mid : ℕ) (notes_wanted : Bool) (notes_on : List Note → Type 0) (begins : Type 0) (carried : Set → List Taken → State → Type 0) (g : Going m old now a b told tells pages fills mid notes_wanted notes_on begins carried) (dropped : Bool) where
+module _ (m : Setting) (old now : State) (a b : Counts) (told tells : Option (List ℕ)) (pages fills mid : ℕ) (notes_wanted : Bool)
+    (notes_on : List Note → Type 0) (begins : Type 0) (carried : Set → List Taken → State → Type 0)
+    (g : Going m old now a b told tells pages fills mid notes_wanted notes_on begins carried) (dropped : Bool) where
   abbrev pub notes_tried : List Note
   notes_tried = g.notes ++ emptied_if dropped now.step
 
@@ -270,12 +303,15 @@ module _ (m : Setting) (old now : State) (a b : Counts) (told tells : Option (Li
 -- Where all was dropped before the next step, it clashes by what was kept.
 abbrev pub DropClashes : Setting → State → Bool → Type 0 → (Set → List Taken → State → Type 0) → Type 0
 DropClashes m now dropped begins carried =
-    begins → dropped ≡ true → (steps : List Taken) (whole : Set) → Roomy steps → carried now.set steps (with_set now whole) → clashes_from m now ≡ true
+    begins → dropped ≡ true → (steps : List Taken) (whole : Set) → Roomy steps → carried now.set steps (with_set now whole)
+    → clashes_from m now ≡ true
 
 -- So it is, and what is known goes on over that step.
-pub record StepCarries (m : Setting) (now new : State) (lost : Lost) (begins : Type 0) (carried carried_then : Set → List Taken → State → Type 0) : Type 0 where
+pub record StepCarries (m : Setting) (now new : State) (lost : Lost) (begins : Type 0)
+    (carried carried_then : Set → List Taken → State → Type 0) : Type 0 where
   pub clash : DropClashes m now lost.before begins carried
-  pub over : begins → (steps : List Taken) (t : Taken) → Roomy (steps ++ t ∷ []) → IsTakenFrom m (eventful m now) t → t.set ≡ left_of lost.before now.set → carried now.set steps t.before
+  pub over : begins → (steps : List Taken) (t : Taken) → Roomy (steps ++ t ∷ []) → IsTakenFrom m (eventful m now) t
+      → t.set ≡ left_of lost.before now.set → carried now.set steps t.before
       → carried_then new.set (steps ++ t ∷ []) t.after
 
 chosen_kept : (m : Setting) (b : State) (dropped : Bool) → (dropped ≡ true → clashes_from m b ≡ true)
@@ -284,23 +320,33 @@ chosen_kept m b true h = inr (refl, h refl)
 chosen_kept m b false h = inl refl
 
 -- the set that was chosen keeps the rule, whether the step goes or stops
-module _ (m : Setting) (old now : State) (a b : Counts) (told tells : Option (List ℕ)) (pages fills mid : ℕ) (notes_wanted : Bool) (notes_on : List Note → Type 0) (begins : Type 0) (carried : Set → List Taken → State → Type 0) (g : Going m old now a b told tells pages fills mid notes_wanted notes_on begins carried) (dropped : Bool) where
-  pub chosen_rule : CarryLaws → CarriesPast m carried → DropClashes m now dropped begins carried → begins → Kept m old (g.sets ++ left_of dropped now.set ∷ [])
+module _ (m : Setting) (old now : State) (a b : Counts) (told tells : Option (List ℕ)) (pages fills mid : ℕ) (notes_wanted : Bool)
+    (notes_on : List Note → Type 0) (begins : Type 0) (carried : Set → List Taken → State → Type 0)
+    (g : Going m old now a b told tells pages fills mid notes_wanted notes_on begins carried) (dropped : Bool) where
+  pub chosen_rule : CarryLaws → CarriesPast m carried → DropClashes m now dropped begins carried → begins
+      → Kept m old (g.sets ++ left_of dropped now.set ∷ [])
   chosen_rule laws goes clash s =
       let before = steps_by m old g.sets in
       laws.rule m old (with_set now g.whole) g.sets (left_of dropped now.set) g.reports g.steps (g.rule s)
-      (λ roomy. goes.next now.set before (with_set now g.whole) (g.carries s roomy) (left_of dropped now.set) (chosen_kept m now dropped (λ drop. clash s drop before g.whole roomy (g.carries s roomy))))
+      (λ roomy. goes.next now.set before (with_set now g.whole) (g.carries s roomy) (left_of dropped now.set)
+      (chosen_kept m now dropped (λ drop. clash s drop before g.whole roomy (g.carries s roomy))))
 
 -- where nothing was dropped
-no_drop : (m : Setting) (now : State) (begins : Type 0) (carried : Set → List Taken → State → Type 0) → DropClashes m now false begins carried
+no_drop : (m : Setting) (now : State) (begins : Type 0) (carried : Set → List Taken → State → Type 0)
+    → DropClashes m now false begins carried
 no_drop m now begins carried s dropped = absurd (let f : false ≡ true = dropped in cc)
 
 -- and goes
-pub going_on : (m : Setting) (old now new : State) (lost : Lost) (seen : Seen) (a b c : Counts) (told tells : Option (List ℕ)) (pages fills mid filled : ℕ) (notes_wanted : Bool) (notes_on notes_after : List Note → Type 0) (begins : Type 0) (carried carried_then : Set → List Taken → State → Type 0)
-    → (g : Going m old now a b told tells pages fills mid notes_wanted notes_on begins carried) → Goes m (eventful m now) lost seen new b c → new.step ≡ now.step + 1 → mid ≤ filled → CountsFills pages (len new.set) fills filled → (notes_wanted ≡ true → lost.reloaded ≡ false)
+pub going_on : (m : Setting) (old now new : State) (lost : Lost) (seen : Seen) (a b c : Counts) (told tells : Option (List ℕ))
+    (pages fills mid filled : ℕ) (notes_wanted : Bool) (notes_on notes_after : List Note → Type 0) (begins : Type 0)
+    (carried carried_then : Set → List Taken → State → Type 0)
+    → (g : Going m old now a b told tells pages fills mid notes_wanted notes_on begins carried) → Goes m (eventful m now) lost seen new b c
+    → new.step ≡ now.step + 1 → mid ≤ filled → CountsFills pages (len new.set) fills filled → (notes_wanted ≡ true → lost.reloaded ≡ false)
     → CarryLaws → CarriesPast m carried → StepCarries m now new lost begins carried carried_then
-    → ((notes : List Note) → notes_on notes → notes_after (notes ++ notes_then lost now.step)) → Stepped m old now new seen a c told tells pages fills filled notes_wanted notes_after begins carried_then
-going_on m old now new lost seen a b c told tells pages fills mid filled notes_wanted notes_on notes_after begins carried carried_then g r count rises enough exact laws goes over on =
+    → ((notes : List Note) → notes_on notes → notes_after (notes ++ notes_then lost now.step))
+    → Stepped m old now new seen a c told tells pages fills filled notes_wanted notes_after begins carried_then
+going_on m old now new lost seen a b c told tells pages fills mid filled notes_wanted notes_on notes_after begins carried carried_then g r
+    count rises enough exact laws goes over on =
     let set = left_of lost.before now.set in
     let before = g.notes ++ emptied_if lost.before now.step in
     let notes = before ++ emptied_if lost.after (now.step + 1) in
@@ -313,13 +359,17 @@ going_on m old now new lost seen a b c told tells pages fills mid filled notes_w
     let goes_here = chosen_first m now g.whole set ∙ r.went in
     let taken_so_far = steps_by m old g.sets in
     let t = step_taken (with_set now g.whole) set r.report (with_set new r.whole) in
-    let joined : steps_by m old (g.sets ++ set ∷ []) ≡ taken_so_far ++ t ∷ [] = laws.joins m old (with_set now g.whole) (with_set new r.whole) g.sets set g.reports r.report g.steps goes_here in
+    let joined : steps_by m old (g.sets ++ set ∷ []) ≡ taken_so_far ++ t ∷ [] =
+    laws.joins m old (with_set now g.whole) (with_set new r.whole) g.sets set g.reports r.report g.steps goes_here in
     let from : IsTakenFrom m (eventful m now) t = record { cpu = refl; ram = refl; went = goes_here; stepped = r.went } in
     let is : set_told notes (now.step + 1) r.whole ≡ left_of lost.after r.whole =
-    told_more lost.after (now.step + 1) r.whole before up ∙ ap (left_of lost.after) (told_none now.step (now.step + 1) r.whole before (omega arith) tried_now.until) in
-    let by_before = λ (w : notes_wanted ≡ true). told_on lost.after m old g.sets before (now.step + 1) (omega (arith, n)) up (by_then m old now a b told tells pages fills mid notes_wanted notes_on begins carried g lost.before w) in
+    told_more lost.after (now.step + 1) r.whole before up
+    ∙ ap (left_of lost.after) (told_none now.step (now.step + 1) r.whole before (omega arith) tried_now.until) in
+    let by_before = λ (w : notes_wanted ≡ true). told_on lost.after m old g.sets before (now.step + 1) (omega (arith, n)) up
+    (by_then m old now a b told tells pages fills mid notes_wanted notes_on begins carried g lost.before w) in
     let by_now = λ (w : notes_wanted ≡ true). told_one m (with_set now g.whole) set notes
-    (chosen_told m old now a b told tells pages fills mid notes_wanted notes_on begins carried g lost.before w ∙ sym (told_before lost.after (now.step + 1) now.step g.whole before (omega arith) up)) in
+    (chosen_told m old now a b told tells pages fills mid notes_wanted notes_on begins carried g lost.before w
+    ∙ sym (told_before lost.after (now.step + 1) now.step g.whole before (omega arith) up)) in
     record {
       sets = g.sets ++ set ∷ [];
       reports = g.reports ++ r.report ∷ [];
@@ -330,13 +380,16 @@ going_on m old now new lost seen a b c told tells pages fills mid filled notes_w
       kept = λ w. r.kept.exact (exact w) ∙ (sym is ∙ ap (λ (s : ℕ). set_told notes s r.whole) (sym count));
       by = λ w. told_join m old (with_set now g.whole) g.sets (set ∷ []) g.reports notes g.steps (by_before w) (by_now w);
       so_far = subst (λ (s : ℕ). SoFar old.step s notes) (sym count) (go_next lost.after old.step now.step before low tried_now);
-      tells_notes = subst notes_after (sym (append_assoc g.notes (emptied_if lost.before now.step) (emptied_if lost.after (now.step + 1)))) (on g.notes g.tells_notes);
+      tells_notes = subst notes_after (sym (append_assoc g.notes (emptied_if lost.before now.step) (emptied_if lost.after (now.step + 1))))
+          (on g.notes g.tells_notes);
       each_filled = filled_push pages fills filled g.sets set (filled_later pages fills mid filled g.sets rises g.each_filled)
-          (enough_later pages (len set) fills mid filled rises (enough_chosen m old now a b told tells pages fills mid notes_wanted notes_on begins carried g lost.before));
+          (enough_later pages (len set) fills mid filled rises
+          (enough_chosen m old now a b told tells pages fills mid notes_wanted notes_on begins carried g lost.before));
       rule = chosen_rule m old now a b told tells pages fills mid notes_wanted notes_on begins carried g lost.before laws goes over.clash;
       carries = λ s roomy.
           let then : Roomy (taken_so_far ++ t ∷ []) = subst Roomy joined roomy in
-          subst (λ (l : List Taken). carried_then new.set l (with_set new r.whole)) (sym joined) (over.over s taken_so_far t then from refl (g.carries s (laws.known.before taken_so_far t then)));
+          subst (λ (l : List Taken). carried_then new.set l (with_set new r.whole)) (sym joined)
+          (over.over s taken_so_far t then from refl (g.carries s (laws.known.before taken_so_far t then)));
       enough = enough;
       front = trace_of g.reports;
       trace = trace_join g.reports (r.report ∷ []) ∙ ap (λ (l : List Item). trace_of g.reports ++ l) (append-nil r.report.items ∙ r.items);
@@ -345,10 +398,15 @@ going_on m old now new lost seen a b c told tells pages fills mid filled notes_w
     }
 
 -- its lines were put
-pub stepped_put : (m : Setting) (old now new : State) (seen : Seen) (a b : Counts) (told tells last : Option (List ℕ)) (pages fills filled : ℕ) (notes_wanted : Bool) (notes_on : List Note → Type 0) (begins : Type 0) (carried : Set → List Taken → State → Type 0) → Stepped m old now new seen a b told tells pages fills filled notes_wanted notes_on begins carried
-    → Appends tells last (lines_of (items_at now.step (whats seen))) → Going m old new a b told last pages fills filled notes_wanted notes_on begins carried
+pub stepped_put : (m : Setting) (old now new : State) (seen : Seen) (a b : Counts) (told tells last : Option (List ℕ))
+    (pages fills filled : ℕ) (notes_wanted : Bool) (notes_on : List Note → Type 0) (begins : Type 0)
+    (carried : Set → List Taken → State → Type 0) → Stepped m old now new seen a b told tells pages fills filled notes_wanted
+    notes_on begins carried
+    → Appends tells last (lines_of (items_at now.step (whats seen))) → Going m old new a b told last pages fills filled notes_wanted
+    notes_on begins carried
 stepped_put m old now new seen a b told tells last pages fills filled notes_wanted notes_on begins carried s put =
-    let is : lines_of (trace_of s.reports) ≡ lines_of s.front ++ lines_of (items_at now.step (whats seen)) = ap lines_of s.trace ∙ lines_join s.front (items_at now.step (whats seen)) in
+    let is : lines_of (trace_of s.reports) ≡ lines_of s.front ++ lines_of (items_at now.step (whats seen)) =
+    ap lines_of s.trace ∙ lines_join s.front (items_at now.step (whats seen)) in
     record {
       sets = s.sets;
       reports = s.reports;
@@ -364,36 +422,49 @@ stepped_put m old now new seen a b told tells last pages fills filled notes_want
       rule = s.rule;
       carries = s.carries;
       enough = s.enough;
-      text = subst (λ (l : List ℕ). Appends told last l) (sym is) (appends_both told tells last (lines_of s.front) (lines_of (items_at now.step (whats seen))) s.text put);
+      text = subst (λ (l : List ℕ). Appends told last l) (sym is)
+          (appends_both told tells last (lines_of s.front) (lines_of (items_at now.step (whats seen))) s.text put);
       counts = s.counts;
     }
 
 -- or a front of them
-pub stepped_front : (m : Setting) (old now new : State) (seen : Seen) (a b : Counts) (told tells last : Option (List ℕ)) (pages fills filled : ℕ) (notes_wanted : Bool) (notes_on : List Note → Type 0) (begins : Type 0) (carried : Set → List Taken → State → Type 0) → (s : Stepped m old now new seen a b told tells pages fills filled notes_wanted notes_on begins carried)
+pub stepped_front : (m : Setting) (old now new : State) (seen : Seen) (a b : Counts) (told tells last : Option (List ℕ))
+    (pages fills filled : ℕ) (notes_wanted : Bool) (notes_on : List Note → Type 0) (begins : Type 0)
+    (carried : Set → List Taken → State → Type 0)
+    → (s : Stepped m old now new seen a b told tells pages fills filled notes_wanted notes_on begins carried)
     → AppendsFront tells last (lines_of (items_at now.step (whats seen))) → AppendsFront told last (lines_of (trace_of s.reports))
 stepped_front m old now new seen a b told tells last pages fills filled notes_wanted notes_on begins carried s put =
-    let is : lines_of (trace_of s.reports) ≡ lines_of s.front ++ lines_of (items_at now.step (whats seen)) = ap lines_of s.trace ∙ lines_join s.front (items_at now.step (whats seen)) in
-    subst (λ (l : List ℕ). AppendsFront told last l) (sym is) (front_of told tells last (lines_of s.front) (lines_of (items_at now.step (whats seen))) [] (lines_of s.front ++ lines_of (items_at now.step (whats seen))) s.text put
+    let is : lines_of (trace_of s.reports) ≡ lines_of s.front ++ lines_of (items_at now.step (whats seen)) =
+    ap lines_of s.trace ∙ lines_join s.front (items_at now.step (whats seen)) in
+    subst (λ (l : List ℕ). AppendsFront told last l) (sym is)
+    (front_of told tells last (lines_of s.front) (lines_of (items_at now.step (whats seen))) []
+    (lines_of s.front ++ lines_of (items_at now.step (whats seen))) s.text put
     (ap (λ (l : List ℕ). lines_of s.front ++ l) (sym (append-nil (lines_of (items_at now.step (whats seen)))))))
 
 -- ---- where the slice ends
 
-are_notes : (m : Setting) (old : State) (sets : List Set) (last : ℕ) (notes : List Note) → TriedNotes old.step last notes → AreNotes m old sets last notes
+are_notes : (m : Setting) (old : State) (sets : List Set) (last : ℕ) (notes : List Note) → TriedNotes old.step last notes
+    → AreNotes m old sets last notes
 are_notes m old sets last notes h = record {
   ordered = h.ordered;
   until = steps_until last notes h.until;
   pages = are_pages last notes h.until;
   few = λ step. let few = h.few step in omega (arith, few);
   once = λ step page. dropped_once last step page notes h.until;
-  held = λ earlier now later page e is. absurd (let no : false ≡ true = sym (none_dropped last now.before.step page notes h.until) ∙ is in cc);
+  held =
+      λ earlier now later page e is. absurd (let no : false ≡ true = sym (none_dropped last now.before.step page notes h.until) ∙ is in cc);
 }
 
 -- no page is reported after the last step
-none_held : (first last : ℕ) (notes : List Note) (set : Set) → TriedNotes first last notes → (page : ℕ) → list_any (is_dropped last page) notes ≡ true → IsSome (get set page)
+none_held : (first last : ℕ) (notes : List Note) (set : Set) → TriedNotes first last notes → (page : ℕ)
+    → list_any (is_dropped last page) notes ≡ true → IsSome (get set page)
 none_held first last notes set h page is = absurd (let no : false ≡ true = sym (none_dropped last last page notes h.until) ∙ is in cc)
 
 -- all steps were done
-pub reached : (m : Setting) (bound : ℕ) (old now : State) (a b : Counts) (told tells : Option (List ℕ)) (pages fills filled : ℕ) (notes_wanted : Bool) (notes_on : List Note → Type 0) (begins : Type 0) (carried : Set → List Taken → State → Type 0) → Going m old now a b told tells pages fills filled notes_wanted notes_on begins carried → now.step ≡ bound → CarryLaws → CarriesPast m carried
+pub reached : (m : Setting) (bound : ℕ) (old now : State) (a b : Counts) (told tells : Option (List ℕ)) (pages fills filled : ℕ)
+    (notes_wanted : Bool) (notes_on : List Note → Type 0) (begins : Type 0) (carried : Set → List Taken → State → Type 0)
+    → Going m old now a b told tells pages fills filled notes_wanted notes_on begins carried → now.step ≡ bound → CarryLaws
+    → CarriesPast m carried
     → SliceAs m bound old now a b told tells pages fills filled notes_wanted notes_on begins (Ok Reached)
 reached m bound old now a b told tells pages fills filled notes_wanted notes_on begins carried g n laws goes = record {
   sets = g.sets;
@@ -414,15 +485,22 @@ reached m bound old now a b told tells pages fills filled notes_wanted notes_on 
   };
   tells_notes = g.tells_notes;
   each_filled = filled_push pages fills filled g.sets now.set g.each_filled g.enough;
-  kept = chosen_rule m old now a b told tells pages fills filled notes_wanted notes_on begins carried g false laws goes (no_drop m now begins carried);
+  kept = chosen_rule m old now a b told tells pages fills filled notes_wanted notes_on begins carried g false laws goes
+      (no_drop m now begins carried);
   left = λ s roomy. goes.left now.set (steps_by m old g.sets) (with_set now g.whole) (g.carries s roomy);
 }
 
 -- the next step stops
-pub stopped : (m : Setting) (bound : ℕ) (old now new : State) (lost : Lost) (stop : Stop) (a b : Counts) (told tells : Option (List ℕ)) (pages fills mid filled : ℕ) (notes_wanted : Bool) (notes_on notes_after : List Note → Type 0) (begins : Type 0) (carried : Set → List Taken → State → Type 0)
-    → Going m old now a b told tells pages fills mid notes_wanted notes_on begins carried → StepHalts m (eventful m now) lost stop → now.step < bound → new.step ≡ now.step → mid ≤ filled → CarryLaws → CarriesPast m carried → DropClashes m now lost.before begins carried
-    → ((notes : List Note) → notes_on notes → notes_after (notes ++ emptied_if lost.before now.step)) → SliceAs m bound old new a b told tells pages fills filled notes_wanted notes_after begins (Ok (Stopped stop))
-stopped m bound old now new lost stop a b told tells pages fills mid filled notes_wanted notes_on notes_after begins carried g h lt still rises laws goes clash on =
+pub stopped : (m : Setting) (bound : ℕ) (old now new : State) (lost : Lost) (stop : Stop) (a b : Counts) (told tells : Option (List ℕ))
+    (pages fills mid filled : ℕ) (notes_wanted : Bool) (notes_on notes_after : List Note → Type 0) (begins : Type 0)
+    (carried : Set → List Taken → State → Type 0)
+    → Going m old now a b told tells pages fills mid notes_wanted notes_on begins carried → StepHalts m (eventful m now) lost stop
+    → now.step < bound → new.step ≡ now.step → mid ≤ filled → CarryLaws → CarriesPast m carried
+    → DropClashes m now lost.before begins carried
+    → ((notes : List Note) → notes_on notes → notes_after (notes ++ emptied_if lost.before now.step))
+    → SliceAs m bound old new a b told tells pages fills filled notes_wanted notes_after begins (Ok (Stopped stop))
+stopped m bound old now new lost stop a b told tells pages fills mid filled notes_wanted notes_on notes_after begins carried g h lt still
+    rises laws goes clash on =
     let set = left_of lost.before now.set in
     let notes = g.notes ++ emptied_if lost.before now.step in
     let told_set = chosen_told m old now a b told tells pages fills mid notes_wanted notes_on begins carried g lost.before in
@@ -438,55 +516,66 @@ stopped m bound old now new lost stop a b told tells pages fills mid filled note
       text = g.text;
       counts = g.counts;
       told_notes = λ w. record {
-        told = are_told m old g.sets notes (by_then m old now a b told tells pages fills mid notes_wanted notes_on begins carried g lost.before w);
-        are = are_notes m old g.sets now.step notes (tried m old now a b told tells pages fills mid notes_wanted notes_on begins carried g lost.before);
+        told =
+            are_told m old g.sets notes
+            (by_then m old now a b told tells pages fills mid notes_wanted notes_on begins carried g lost.before w);
+        are = are_notes m old g.sets now.step notes
+            (tried m old now a b told tells pages fills mid notes_wanted notes_on begins carried g lost.before);
         two = (tried m old now a b told tells pages fills mid notes_wanted notes_on begins carried g lost.before).few;
-        held = none_held old.step now.step notes g.whole (tried m old now a b told tells pages fills mid notes_wanted notes_on begins carried g lost.before);
+        held = none_held old.step now.step notes g.whole
+            (tried m old now a b told tells pages fills mid notes_wanted notes_on begins carried g lost.before);
         ends = subst (λ (x : Set). step_of m (with_set now g.whole) x ≡ Halts stop) (told_set w) halts;
       };
       tells_notes = on g.notes g.tells_notes;
       each_filled = filled_push pages fills filled g.sets set (filled_later pages fills mid filled g.sets rises g.each_filled)
-          (enough_later pages (len set) fills mid filled rises (enough_chosen m old now a b told tells pages fills mid notes_wanted notes_on begins carried g lost.before));
+          (enough_later pages (len set) fills mid filled rises
+          (enough_chosen m old now a b told tells pages fills mid notes_wanted notes_on begins carried g lost.before));
       kept = chosen_rule m old now a b told tells pages fills mid notes_wanted notes_on begins carried g lost.before laws goes clash;
       left = λ s. tt;
     }
 
 -- the lines of a step were not put
-pub failed : (m : Setting) (bound : ℕ) (old now new : State) (seen : Seen) (fault : Failed) (a b : Counts) (told tells last : Option (List ℕ)) (pages fills filled : ℕ) (notes_wanted : Bool) (notes_on : List Note → Type 0) (begins : Type 0) (carried : Set → List Taken → State → Type 0)
-    → Stepped m old now new seen a b told tells pages fills filled notes_wanted notes_on begins carried → AppendsFront tells last (lines_of (items_at now.step (whats seen))) → new.step ≤ bound → CarryLaws → CarriesPast m carried
+pub failed : (m : Setting) (bound : ℕ) (old now new : State) (seen : Seen) (fault : Failed) (a b : Counts)
+    (told tells last : Option (List ℕ)) (pages fills filled : ℕ) (notes_wanted : Bool) (notes_on : List Note → Type 0) (begins : Type 0)
+    (carried : Set → List Taken → State → Type 0)
+    → Stepped m old now new seen a b told tells pages fills filled notes_wanted notes_on begins carried
+    → AppendsFront tells last (lines_of (items_at now.step (whats seen))) → new.step ≤ bound → CarryLaws → CarriesPast m carried
     → SliceAs m bound old new a b told last pages fills filled notes_wanted notes_on begins (Err fault)
-failed m bound old now new seen fault a b told tells last pages fills filled notes_wanted notes_on begins carried s put le laws goes = record {
-  sets = s.sets;
-  reports = s.reports;
-  last = with_set new s.whole;
-  notes = s.notes;
-  end = new.set;
-  steps = s.steps;
-  ends = le;
-  text = stepped_front m old now new seen a b told tells last pages fills filled notes_wanted notes_on begins carried s put;
-  counts = s.counts;
-  told_notes = λ w. record {
-    told = are_told m old s.sets s.notes (s.by w);
-    are = are_notes m old s.sets new.step s.notes (tried_none old.step new.step s.notes s.so_far);
-    two = s.so_far.few;
-    held = none_held old.step new.step s.notes s.whole (tried_none old.step new.step s.notes s.so_far);
-    ends = tt;
-  };
-  tells_notes = s.tells_notes;
-  each_filled = filled_push pages fills filled s.sets new.set s.each_filled s.enough;
-  kept = λ b. laws.rule m old (with_set new s.whole) s.sets new.set s.reports s.steps (s.rule b)
-      (λ roomy. goes.next new.set (steps_by m old s.sets) (with_set new s.whole) (s.carries b roomy) new.set (inl refl));
-  left = λ b. tt;
-}
+failed m bound old now new seen fault a b told tells last pages fills filled notes_wanted notes_on begins carried s put le laws goes =
+    record {
+      sets = s.sets;
+      reports = s.reports;
+      last = with_set new s.whole;
+      notes = s.notes;
+      end = new.set;
+      steps = s.steps;
+      ends = le;
+      text = stepped_front m old now new seen a b told tells last pages fills filled notes_wanted notes_on begins carried s put;
+      counts = s.counts;
+      told_notes = λ w. record {
+        told = are_told m old s.sets s.notes (s.by w);
+        are = are_notes m old s.sets new.step s.notes (tried_none old.step new.step s.notes s.so_far);
+        two = s.so_far.few;
+        held = none_held old.step new.step s.notes s.whole (tried_none old.step new.step s.notes s.so_far);
+        ends = tt;
+      };
+      tells_notes = s.tells_notes;
+      each_filled = filled_push pages fills filled s.sets new.set s.each_filled s.enough;
+      kept = λ b. laws.rule m old (with_set new s.whole) s.sets new.set s.reports s.steps (s.rule b)
+          (λ roomy. goes.next new.set (steps_by m old s.sets) (with_set new s.whole) (s.carries b roomy) new.set (inl refl));
+      left = λ b. tt;
+    }
 
 abbrev pub counted : ℕ → ℕ → Counts
 counted retired passed = record { retired = retired; passed = passed }
 
-pub counts_same : (retired retired' passed passed' : ℕ) → retired' ≡ retired → passed' ≡ passed → counted retired' passed' ≡ counted retired passed
+pub counts_same : (retired retired' passed passed' : ℕ) → retired' ≡ retired → passed' ≡ passed
+    → counted retired' passed' ≡ counted retired passed
 counts_same retired retired' passed passed' r p = λ i. counted (r i) (p i)
 
 -- a step after an empty stretch, whose events were given
-pub turned : (m : Setting) (now mid new : State) (board : Board) (lost : Lost) (result : Result Seen Stop) (a b c : Counts) → mid ≡ record now { board = board } → board ≡ given now.board m.script now.step → b ≡ a
+pub turned : (m : Setting) (now mid new : State) (board : Board) (lost : Lost) (result : Result Seen Stop) (a b c : Counts)
+    → mid ≡ record now { board = board } → board ≡ given now.board m.script now.step → b ≡ a
     → StepAs m mid lost result new b c → StepAs m (eventful m now) lost result new a c
 turned m now mid new board lost result a b c is events same step =
     subst (λ (x : Counts). StepAs m (eventful m now) lost result new x c) same
@@ -494,8 +583,10 @@ turned m now mid new board lost result a b c is events same step =
     (subst (λ (x : State). StepAs m x lost result new b c) is step))
 
 -- notes go on with those of one step more
-pub notes_on_more : (notes_wanted : Bool) (told tells last : List Note → Type 0) (more : List Note) → NotesOn notes_wanted tells last more → (notes : List Note) → NotesOn notes_wanted told tells notes → NotesOn notes_wanted told last (notes ++ more)
-notes_on_more notes_wanted told tells last more on notes h w so_far here = subst last (append_assoc so_far notes more) (on w (so_far ++ notes) (h w so_far here))
+pub notes_on_more : (notes_wanted : Bool) (told tells last : List Note → Type 0) (more : List Note) → NotesOn notes_wanted tells last more
+    → (notes : List Note) → NotesOn notes_wanted told tells notes → NotesOn notes_wanted told last (notes ++ more)
+notes_on_more notes_wanted told tells last more on notes h w so_far here =
+    subst last (append_assoc so_far notes more) (on w (so_far ++ notes) (h w so_far here))
 
 pub notes_on_none : (notes_wanted : Bool) (told : List Note → Type 0) → NotesOn notes_wanted told told []
 notes_on_none notes_wanted told w so_far here = subst told (sym (append-nil so_far)) here

@@ -36,7 +36,8 @@ pub outside_of : (p p' : Pool) (m m' fs fs' : List ℕ) → Owns p m fs → Move
 outside_of p p' m m' fs fs' o v = record {
   size = v.size;
   others = λ g out. v.others g
-      (not_between p.base p.count g (free_list p m) out (λ f k. let w = times-within p.base p.count f (free_list p m) o.stands.within k in (w.0, w.1)))
+      (not_between p.base p.count g (free_list p m) out
+      (λ f k. let w = times-within p.base p.count f (free_list p m) o.stands.within k in (w.0, w.1)))
       (not_between p.base p.count g fs out (λ f k. ((o.out f k).low, (o.out f k).high)));
 }
 
@@ -45,8 +46,10 @@ pub still_filled : (old new before after : ℕ) → CountsFills old new before a
 still_filled old new before after f h = let e = f.enough in omega (arith, e, h)
 
 -- the host's first frames, where a slice has done its steps
-pub front_after : (result : Result Pause Failed) (image : Image) (script : Events) (frames : ℕ) (g : Running Rattle.shadow_cache.specs.declared.roots.Roots.Roots) (pool : Pool) (memory : List ℕ)
-    → IfReached result (IsHeld of_roots (ground image frames) g pool memory) → IfReached result (take (4096 * frames) memory ≡ with_patches image (shown (wedge image script frames) memory))
+pub front_after : (result : Result Pause Failed) (image : Image) (script : Events) (frames : ℕ)
+    (g : Running Rattle.shadow_cache.specs.declared.roots.Roots.Roots) (pool : Pool) (memory : List ℕ)
+    → IfReached result (IsHeld of_roots (ground image frames) g pool memory)
+    → IfReached result (take (4096 * frames) memory ≡ with_patches image (shown (wedge image script frames) memory))
 front_after (Ok pause) image script frames g pool memory h = front_held pause image script frames g pool memory h
 front_after (Err failed) image script frames g pool memory h = tt
 
@@ -54,7 +57,8 @@ front_after (Err failed) image script frames g pool memory h = tt
 pub none_kept : (pages fills : ℕ) → pages ≡ 0 → WereFilled pages fills
 none_kept pages fills none = omega (arith, none)
 
-pub none_kept_ok : (memory : List ℕ) (result : Result (Guest × Pool) StartFault) → IfOk result (λ started. pages_kept of_roots started.0.shadows memory ≡ 0)
+pub none_kept_ok : (memory : List ℕ) (result : Result (Guest × Pool) StartFault)
+    → IfOk result (λ started. pages_kept of_roots started.0.shadows memory ≡ 0)
     → IfOk result (λ started. WereFilled (pages_kept of_roots started.0.shadows memory) started.0.fills)
 none_kept_ok memory (Ok started) none = none_kept (pages_kept of_roots started.0.shadows memory) started.0.fills none
 none_kept_ok memory (Err fault) none = tt

@@ -30,8 +30,10 @@ module _ {S : Type 0} (shows : shadows.Ghosts S) where
   }
 
   -- as many frames as were free or held still are
-  pub enough_then : (m : Setting) (g now : Running S) (p q : Pool) (memory then : List ℕ) → IsHeld shows m g p memory → IsHeld shows m now q then
-      → Keeps p q memory then (shows.frames g.shadows memory) (shows.frames now.shadows then) → 16 ≤ length (free_list p memory) + g.held → 16 ≤ length (free_list q then) + now.held
+  pub enough_then : (m : Setting) (g now : Running S) (p q : Pool) (memory then : List ℕ) → IsHeld shows m g p memory
+      → IsHeld shows m now q then
+      → Keeps p q memory then (shows.frames g.shadows memory) (shows.frames now.shadows then) → 16 ≤ length (free_list p memory) + g.held
+      → 16 ≤ length (free_list q then) + now.held
   enough_then m g now p q memory then a b k enough =
       let x = a.counted in
       let y = b.counted in
@@ -42,7 +44,8 @@ module _ {S : Type 0} (shows : shadows.Ghosts S) where
   pub held_given : (image : Image) (f n : ℕ) (g : Running S) (board : Board) (pool : Pool) (memory : List ℕ) → n ≡ f
       → IsHeld shows (ground image f) g pool memory → IsHeld shows (ground image n) (record g { board = board }) pool memory
   held_given image f n g board pool memory is h =
-      subst (λ (k : ℕ). IsHeld shows (ground image k) (record g { board = board }) pool memory) (sym is) (held_later (ground image f) g board g.step pool memory (omega arith) h)
+      subst (λ (k : ℕ). IsHeld shows (ground image k) (record g { board = board }) pool memory) (sym is)
+      (held_later (ground image f) g board g.step pool memory (omega arith) h)
 
   pub held_at : (image : Image) (f n : ℕ) (g : Running S) (pool : Pool) (memory : List ℕ) → f ≡ n
       → IsHeld shows (ground image f) g pool memory → IsHeld shows (ground image n) g pool memory

@@ -38,16 +38,22 @@ pub record Retires (k : ℕ) (s t : Standing) : Type 0 where
 pub counts_of : EachIsRun → (v : View) (k : ℕ) (s : Standing) (exit : Exit) (t : Standing) → host_run v k s ≡ (exit, t) → Retires k s t
 counts_of law v k s exit t is =
     let r = is_run law v k s exit t is in
-    record { n = r.n; few = elim r.ends [ inl all ↦ (let e = all.0 in omega (arith, e)) | inr some ↦ (let e = some.0 in omega (arith, e)) ]; retired = r.retired }
+    record {
+      n = r.n;
+      few = elim r.ends [ inl all ↦ (let e = all.0 in omega (arith, e)) | inr some ↦ (let e = some.0 in omega (arith, e)) ];
+      retired = r.retired;
+    }
 
 -- ---- where it leads
 
 entry_low : (v : View) (at : ℕ) → is_entry v at ≡ true → at < 0x06000000
-entry_low v at e = let w = and_parts (nat_le 67108864 at) (nat_lt at 100663296) (and_parts v.kernel (is_window at) e).1 in ltb-true at 100663296 w.1
+entry_low v at e = let w =
+    and_parts (nat_le 67108864 at) (nat_lt at 100663296) (and_parts v.kernel (is_window at) e).1 in ltb-true at 100663296 w.1
 
 module _ (enters : EntersTheWindow) (leaves : ExitsInTheWindow) where
   by_exit : (v : View) (memory : List ℕ) (r : Regs) (exit : Exit) → host_step v memory r ≡ Err exit → LeadsLow exit
-  by_exit v memory r (exits.Entry at) e = let p = leaves v memory r at e in subst (λ (n : ℕ). n < 0x06000000) (sym p.1) (entry_low v r.eip p.0)
+  by_exit v memory r (exits.Entry at) e = let p =
+      leaves v memory r at e in subst (λ (n : ℕ). n < 0x06000000) (sym p.1) (entry_low v r.eip p.0)
   by_exit v memory r (exits.Fault vector code cr2) e = tt
   by_exit v memory r (exits.Soft vector) e = tt
   by_exit v memory r exits.Outside e = tt
@@ -55,9 +61,11 @@ module _ (enters : EntersTheWindow) (leaves : ExitsInTheWindow) where
   by_exit v memory r exits.Wrap e = tt
   by_exit v memory r exits.Budget e = tt
 
-  by_met : (v : View) (last : Standing) (exit : Exit) (t : Standing) (met : Met (Completion × List ℕ)) → host_step v last.ram last.regs ≡ met → Leaves met last exit t → LeadsLow exit
+  by_met : (v : View) (last : Standing) (exit : Exit) (t : Standing) (met : Met (Completion × List ℕ))
+      → host_step v last.ram last.regs ≡ met → Leaves met last exit t → LeadsLow exit
   by_met v last exit t (Ok (Completed regs, ram)) e l = absurd l
-  by_met v last exit t (Ok (Entered regs, ram)) e l = subst LeadsLow (sym l.0) (entry_low v regs.eip (enters v last.ram last.regs regs ram e))
+  by_met v last exit t (Ok (Entered regs, ram)) e l =
+      subst LeadsLow (sym l.0) (entry_low v regs.eip (enters v last.ram last.regs regs ram e))
   by_met v last exit t (Err x) e l = subst LeadsLow (sym l.0) (by_exit v last.ram last.regs x e)
 
   pub leads_low : EachIsRun → (v : View) (k : ℕ) (s : Standing) (exit : Exit) (t : Standing) → host_run v k s ≡ (exit, t) → LeadsLow exit
@@ -70,7 +78,8 @@ module _ (enters : EntersTheWindow) (leaves : ExitsInTheWindow) where
 
 -- ---- the root lies in the memory, as each frame that a walk reads
 
-pub root_lies : (memory fs : List ℕ) (root : ℕ) → Holds memory fs → (1 ≤ times root (walk_frames memory root 0) → 1 ≤ times root fs) → 4096 * root < length memory
+pub root_lies : (memory fs : List ℕ) (root : ℕ) → Holds memory fs → (1 ≤ times root (walk_frames memory root 0) → 1 ≤ times root fs)
+    → 4096 * root < length memory
 root_lies memory fs root h walked =
     let c = times-cons root root (with_table (word32 memory (dir_place (4096 * root) 0))) in
     let s = hit-self root in

@@ -13,7 +13,8 @@ use Rattle.wedge_step.proofs.Bools.{clash, or_false}
 use Rattle.wedge_step.proofs.AmongPages.{among_contains}
 use Rattle.wedge_step.proofs.Behind.{found_behind, contains_among}
 
-module _ (m : Setting) (ram then : List ℕ) (size : length then ≡ length ram) (room : 4096 * m.frames ≤ length ram) (long : length ram ≤ 4096 * m.frames) where
+module _ (m : Setting) (ram then : List ℕ) (size : length then ≡ length ram) (room : 4096 * m.frames ≤ length ram)
+    (long : length ram ≤ 4096 * m.frames) where
   -- the guest's frames of which the test doesn't hold
   abbrev pub unheld : (ℕ → Bool) → ℕ → List ℕ
   unheld tables zero = []
@@ -23,7 +24,8 @@ module _ (m : Setting) (ram then : List ℕ) (size : length then ≡ length ram)
   among_unheld tables zero f a = absurd (clash false a refl)
   among_unheld tables (suc n) f a = by (tables n) refl a (λ x. among_unheld tables n f x)
     where
-      by : (b : Bool) → tables n ≡ b → is_among f (cond b (unheld tables n) (n ∷ unheld tables n)) ≡ true → (is_among f (unheld tables n) ≡ true → tables f ≡ false) → tables f ≡ false
+      by : (b : Bool) → tables n ≡ b → is_among f (cond b (unheld tables n) (n ∷ unheld tables n)) ≡ true
+          → (is_among f (unheld tables n) ≡ true → tables f ≡ false) → tables f ≡ false
       by true e x rest = rest x
       by false e x rest = elim (eqb_tells f n) [
         | inl t ↦ ap tables t.1 ∙ e
@@ -34,28 +36,37 @@ module _ (m : Setting) (ram then : List ℕ) (size : length then ≡ length ram)
   is_unheld tables zero f lt e = absurd (omega (arith, lt))
   is_unheld tables (suc n) f lt e = by (tables n) refl (λ l. is_unheld tables n f l e)
     where
-      by : (b : Bool) → tables n ≡ b → (f < n → is_among f (unheld tables n) ≡ true) → is_among f (cond b (unheld tables n) (n ∷ unheld tables n)) ≡ true
+      by : (b : Bool) → tables n ≡ b → (f < n → is_among f (unheld tables n) ≡ true)
+          → is_among f (cond b (unheld tables n) (n ∷ unheld tables n)) ≡ true
       by true t rest = elim (cases_lt f n) [
         | inl l ↦ rest l
         | inr g ↦ absurd (clash (tables n) t (let same : n ≡ f = omega (arith, lt, g) in ap tables same ∙ e))
       ]
       by false t rest = elim (eqb_tells f n) [
         | inl s ↦ ap (λ (b : Bool). b || is_among f (unheld tables n)) s.0
-        | inr o ↦ ap (λ (b : Bool). b || is_among f (unheld tables n)) o.0 ∙ rest (elim (cases_lt f n) [ inl l ↦ l | inr g ↦ absurd (o.1 (omega (arith, lt, g))) ])
+        | inr o ↦ ap (λ (b : Bool). b || is_among f (unheld tables n)) o.0
+            ∙ rest (elim (cases_lt f n) [ inl l ↦ l | inr g ↦ absurd (o.1 (omega (arith, lt, g))) ])
       ]
 
-  pub untouched : (tables : ℕ → Bool) → ((at : ℕ) → at % 4 ≡ 0 → at + 4 ≤ length ram → tables (at / 4096) ≡ true → word32 then at ≡ word32 ram at) → MemoryFollows (unheld tables m.frames) ram then
+  pub untouched : (tables : ℕ → Bool)
+      → ((at : ℕ) → at % 4 ≡ 0 → at + 4 ≤ length ram → tables (at / 4096) ≡ true → word32 then at ≡ word32 ram at)
+      → MemoryFollows (unheld tables m.frames) ram then
   untouched tables same = record {
     long = omega (arith, size);
     words = λ at even within free. by at even within free (tables (at / 4096)) refl;
   }
     where
-      by : (at : ℕ) → at % 4 ≡ 0 → at + 4 ≤ length ram → (Contains (unheld tables m.frames) (at / 4096) → ⊥) → (b : Bool) → tables (at / 4096) ≡ b → HasMoreFlags (word32 ram at) (word32 then at)
+      by : (at : ℕ) → at % 4 ≡ 0 → at + 4 ≤ length ram → (Contains (unheld tables m.frames) (at / 4096) → ⊥) → (b : Bool)
+          → tables (at / 4096) ≡ b → HasMoreFlags (word32 ram at) (word32 then at)
       by at even within free true e = flags_by (word32 ram at) (word32 then at) (same at even within e)
-      by at even within free false e = absurd (free (among_contains (unheld tables m.frames) (at / 4096) (is_unheld tables m.frames (at / 4096) (omega (arith, within, long)) e)))
+      by at even within free false e =
+          absurd (free (among_contains (unheld tables m.frames) (at / 4096)
+          (is_unheld tables m.frames (at / 4096) (omega (arith, within, long)) e)))
 
   -- so what was found is found
-  pub found_on : (tables : ℕ → Bool) → ((at : ℕ) → at % 4 ≡ 0 → at + 4 ≤ length ram → tables (at / 4096) ≡ true → word32 then at ≡ word32 ram at) → (cr3 : ℕ) (pse : Bool) (page : ℕ) (e : Entry) → page < 2 ^ 20
+  pub found_on : (tables : ℕ → Bool)
+      → ((at : ℕ) → at % 4 ≡ 0 → at + 4 ≤ length ram → tables (at / 4096) ≡ true → word32 then at ≡ word32 ram at)
+      → (cr3 : ℕ) (pse : Bool) (page : ℕ) (e : Entry) → page < 2 ^ 20
       → IsFoundBy ram m.frames cr3 pse tables page e → IsFoundBy then m.frames cr3 pse tables page e
   found_on tables same cr3 pse page e lt h =
       found_behind (unheld tables m.frames) ram then m.frames cr3 pse tables page e lt room (untouched tables same)

@@ -17,13 +17,15 @@ awake true o h k = absurd (let f : false ≡ true = h in cc)
 awake false None h k = refl
 awake false (Some vector) h k = absurd (let f : false ≡ true = k in cc)
 
-runs : (cpu : Cpu) (board : Board) (image : Image) → may_run cpu board image ≡ true → not (cpu.halted || is_some (interrupt_of cpu board)) ≡ true
+runs : (cpu : Cpu) (board : Board) (image : Image) → may_run cpu board image ≡ true
+    → not (cpu.halted || is_some (interrupt_of cpu board)) ≡ true
 runs cpu board image may =
     let p = and_parts (not cpu.halted && is_none (interrupt_of cpu board)) (cpu.cpl == 3 || is_outside (place_at image cpu.regs.eip)) may in
     let q = and_parts (not cpu.halted) (is_none (interrupt_of cpu board)) p.0 in
     awake cpu.halted (interrupt_of cpu board) q.0 q.1
 
-pub clashes_by : (m : Setting) (b : State) (cpu : Cpu) (board : Board) (image : Image) → b.cpu ≡ cpu → given b.board m.script b.step ≡ board → may_run cpu board image ≡ true → instruction_clashes m b ≡ true → clashes_from m b ≡ true
+pub clashes_by : (m : Setting) (b : State) (cpu : Cpu) (board : Board) (image : Image) → b.cpu ≡ cpu → given b.board m.script b.step ≡ board
+    → may_run cpu board image ≡ true → instruction_clashes m b ≡ true → clashes_from m b ≡ true
 unfolding clashes_from
 clashes_by m b cpu board image cpu_is board_is may clash =
     let has : has_instruction m b ≡ true =

@@ -32,7 +32,8 @@ pub record IsBetween (image : Image) (eip : ℕ) : Type 0 where
   pub start : places.is_start image.text (eip - 0x10000000) ≡ true
   pub outside : site_at image.sites (eip - 0x10000000) ≡ None
 
-placed_between : (image : Image) (eip : ℕ) (low start : Bool) (site : Option Site) → nat_lt eip 0x10000000 ≡ low → places.is_start image.text (eip - 0x10000000) ≡ start → site_at image.sites (eip - 0x10000000) ≡ site
+placed_between : (image : Image) (eip : ℕ) (low start : Bool) (site : Option Site) → nat_lt eip 0x10000000 ≡ low
+    → places.is_start image.text (eip - 0x10000000) ≡ start → site_at image.sites (eip - 0x10000000) ≡ site
     → is_outside (cond low NotAStart (cond start (by_site site) NotAStart)) ≡ true → IsBetween image eip
 placed_between image eip true start site a b c e = absurd (let f : false ≡ true = e in cc)
 placed_between image eip false false site a b c e = absurd (let f : false ≡ true = e in cc)
@@ -40,7 +41,8 @@ placed_between image eip false true None a b c e = record { above = ltb-false ei
 placed_between image eip false true (Some s) a b c e = absurd (let f : false ≡ true = e in cc)
 
 between : (image : Image) (eip : ℕ) → is_outside (place_at image eip) ≡ true → IsBetween image eip
-between image eip e = placed_between image eip (nat_lt eip 0x10000000) (places.is_start image.text (eip - 0x10000000)) (site_at image.sites (eip - 0x10000000)) refl refl refl e
+between image eip e = placed_between image eip (nat_lt eip 0x10000000) (places.is_start image.text (eip - 0x10000000))
+    (site_at image.sites (eip - 0x10000000)) refl refl refl e
 
 entrance_of : (image : Image) (eip : ℕ) → IsBetween image eip → IsEntrance image eip
 entrance_of image eip h = record {
@@ -54,7 +56,8 @@ pub record MayRun (cpu : Cpu) (board : Board) (image : Image) : Type 0 where
   pub quiet : interrupt_of cpu board ≡ None
   pub entrance : not (cpu.cpl == 3) ≡ true → IsEntrance image cpu.regs.eip
 
-pub may_runs : (cpu : Cpu) (board : Board) (image : Image) (told : Bool) → told ≡ may_run cpu board image → told ≡ true → MayRun cpu board image
+pub may_runs : (cpu : Cpu) (board : Board) (image : Image) (told : Bool) → told ≡ may_run cpu board image → told ≡ true
+    → MayRun cpu board image
 may_runs cpu board image told is yes_told =
     let e : may_run cpu board image ≡ true = sym is ∙ yes_told in
     let user = cpu.cpl == 3 in
@@ -72,7 +75,8 @@ may_runs cpu board image told is yes_told =
     by false out f g = g
 
 -- nothing comes in the next k steps but in the first
-pub quiet_steps : (m : Setting) (b : State) (board : Board) (k : ℕ) → board_now m b ≡ board → interrupt_of b.cpu board ≡ None → (0 < k → comes_within board m.script b.step (k - 1) ≡ false) → AreQuiet m b k
+pub quiet_steps : (m : Setting) (b : State) (board : Board) (k : ℕ) → board_now m b ≡ board → interrupt_of b.cpu board ≡ None
+    → (0 < k → comes_within board m.script b.step (k - 1) ≡ false) → AreQuiet m b k
 quiet_steps m b board zero is none quiet = tt
 quiet_steps m b board (suc k) is none quiet =
     let one : suc k - 1 ≡ k = omega arith in (
@@ -124,7 +128,8 @@ pub board_some : (m : Setting) (b : State) (n : ℕ) → 0 < n → board_after m
 board_some m b zero lt = absurd (omega (arith, lt))
 board_some m b (suc n) lt = refl
 
-pub steps_none : (m : Setting) (b after : State) (sets : List Set) (reports : List Report) → sets ≡ [] → Steps m b sets reports after → (reports ≡ []) × (after ≡ b)
+pub steps_none : (m : Setting) (b after : State) (sets : List Set) (reports : List Report) → sets ≡ [] → Steps m b sets reports after
+    → (reports ≡ []) × (after ≡ b)
 unfolding Steps
 steps_none m b after [] reports e s = s
 steps_none m b after (x ∷ xs) reports e s = absurd (let n : suc (length xs) ≡ 0 = ap length e in omega (arith, n))

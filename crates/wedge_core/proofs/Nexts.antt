@@ -35,7 +35,8 @@ use Rattle.wedge_core.specs.Views.{is_outside, may_run}
 use Rattle.wedge_step.proofs.Bools.{is_not, none_of}
 use Rattle.wedge_core.proofs.Insensitive.{insensitive}
 
-stands_out : (low start : Bool) (site : Option Site) → is_outside (cond low NotAStart (cond start (by_site site) NotAStart)) ≡ true → (low ≡ false) × (start ≡ true) × (site ≡ None)
+stands_out : (low start : Bool) (site : Option Site) → is_outside (cond low NotAStart (cond start (by_site site) NotAStart)) ≡ true
+    → (low ≡ false) × (start ≡ true) × (site ≡ None)
 stands_out true start site e = absurd cc
 stands_out false false site e = absurd cc
 stands_out false true None e = (refl, refl, refl)
@@ -48,18 +49,23 @@ out_of : (user out : Bool) → (user || out) ≡ true → not user ≡ true → 
 out_of true out h k = absurd cc
 out_of false out h k = h
 
-pub next_from : (m : Setting) (b : State) → may_run b.cpu b.board m.image ≡ true → b.cpu.regs.eip < 2 ^ 32 → IsNext m (not (b.cpu.cpl == 3)) b
+pub next_from : (m : Setting) (b : State) → may_run b.cpu b.board m.image ≡ true → b.cpu.regs.eip < 2 ^ 32
+    → IsNext m (not (b.cpu.cpl == 3)) b
 next_from m b may small =
     let eip : ℕ = b.cpu.regs.eip in
-    let p = and_parts (not b.cpu.halted && is_none (interrupt_of b.cpu b.board)) (b.cpu.cpl == 3 || is_outside (place_at m.image b.cpu.regs.eip)) may in
+    let p = and_parts (not b.cpu.halted && is_none (interrupt_of b.cpu b.board))
+    (b.cpu.cpl == 3 || is_outside (place_at m.image b.cpu.regs.eip)) may in
     let q = and_parts (not b.cpu.halted) (is_none (interrupt_of b.cpu b.board)) p.0 in
     record {
       awake = is_not b.cpu.halted q.0;
       quiet = none_of (interrupt_of b.cpu b.board) q.1;
       small = λ k. small;
-      start = λ k. let s = stands_out (nat_lt eip 0x10000000) (places.is_start m.image.text (eip - 0x10000000)) (site_at m.image.sites (eip - 0x10000000)) (out_of (b.cpu.cpl == 3) (is_outside (place_at m.image eip)) p.1 k) in
+      start = λ k. let s = stands_out (nat_lt eip 0x10000000) (places.is_start m.image.text (eip - 0x10000000))
+          (site_at m.image.sites (eip - 0x10000000)) (out_of (b.cpu.cpl == 3) (is_outside (place_at m.image eip)) p.1 k) in
           ap (λ (x : Bool). x && places.is_start m.image.text (eip - 0x10000000)) (not_low eip s.0) ∙ s.1;
-      outside = λ k. (stands_out (nat_lt eip 0x10000000) (places.is_start m.image.text (eip - 0x10000000)) (site_at m.image.sites (eip - 0x10000000)) (out_of (b.cpu.cpl == 3) (is_outside (place_at m.image eip)) p.1 k)).2;
+      outside =
+          λ k. (stands_out (nat_lt eip 0x10000000) (places.is_start m.image.text (eip - 0x10000000))
+          (site_at m.image.sites (eip - 0x10000000)) (out_of (b.cpu.cpl == 3) (is_outside (place_at m.image eip)) p.1 k)).2;
     }
 
 -- ---- what is read and isn't native
@@ -82,7 +88,8 @@ is_three cpl e = ap (λ (n : ℕ). n == 3) e
 is_zero : (cpl : ℕ) → cpl ≡ 0 → (cpl == 3) ≡ false
 is_zero cpl e = ap (λ (n : ℕ). n == 3) e
 
-pub others_users : (m : Setting) (w : IsWedge m) (memory : List ℕ) → IsHost m memory → (b : State) → b.ram ≡ shown m memory → 4096 * m.frames ≤ length b.ram → AreBytes b.ram → again.AreWithin m b.set → b.cpu.regs.eip < 2 ^ 32 → TextLaws m.image
+pub others_users : (m : Setting) (w : IsWedge m) (memory : List ℕ) → IsHost m memory → (b : State) → b.ram ≡ shown m memory
+    → 4096 * m.frames ≤ length b.ram → AreBytes b.ram → again.AreWithin m b.set → b.cpu.regs.eip < 2 ^ 32 → TextLaws m.image
     → IsNext m (not (b.cpu.cpl == 3)) b → IsAble b.cpu → OthersAreUsers (unheld b) (space_at_start m.mode m.frames b.cpu b.ram b.set)
 others_users m w memory host b ram_is room fit sound small laws next able insn len t e n =
     elim able.level [
@@ -90,28 +97,47 @@ others_users m w memory host b ram_is room fit sound small laws next able insn l
           let k = is_zero b.cpu.cpl zero in
           let next0 : IsNext m true b = subst (λ (x : Bool). IsNext m (not x) b) k next in
           let kind = insensitive m w memory host b ram_is room fit sound small laws next0 insn len t
-          (subst (λ (x : Bool). Rattle.machine_model.specs.Instruction.fetched x b.cpu.regs.eip (space_at_start m.mode m.frames b.cpu b.ram b.set) ≡ Ok (Rattle.ia32_decode.specs.declared.answer.Decoded.TheVariants.Insn insn len, t)) k e) in
+          (subst (λ (x : Bool). Rattle.machine_model.specs.Instruction.fetched x b.cpu.regs.eip
+          (space_at_start m.mode m.frames b.cpu b.ram b.set) ≡ Ok
+          (Rattle.ia32_decode.specs.declared.answer.Decoded.TheVariants.Insn insn len, t)) k e) in
           inr (software insn.op kind (subst (λ (x : Bool). is_native x insn.op ≡ false) k n))
       | inr three ↦ inl (ap (λ (x : Bool). x && is_open b.cpu) (is_three b.cpu.cpl three) ∙ able.users three)
     ]
 
 -- ---- the step
 
-pub starts : (m : Setting) (b : State) (mode : Mode) (s : Space) → m.mode ≡ mode → (laid : List ℕ) → laid ≡ b.ram → s ≡ space_at_start mode m.frames b.cpu laid b.set → s ≡ space_at_start m.mode m.frames b.cpu b.ram b.set
+pub starts : (m : Setting) (b : State) (mode : Mode) (s : Space) → m.mode ≡ mode → (laid : List ℕ) → laid ≡ b.ram
+    → s ≡ space_at_start mode m.frames b.cpu laid b.set → s ≡ space_at_start m.mode m.frames b.cpu b.ram b.set
 starts m b mode s mode_is laid laid_is e = e ∙ (λ i. space_at_start (sym mode_is i) m.frames b.cpu (laid_is i) b.set)
 
-pub step_is : (m : Setting) (b : State) → IsLevelOf (not (b.cpu.cpl == 3)) b.cpu.cpl → IsNext m (not (b.cpu.cpl == 3)) b → stepped m b ≡ fetches_next m (unheld b) (space_at_start m.mode m.frames b.cpu b.ram b.set)
+pub step_is : (m : Setting) (b : State) → IsLevelOf (not (b.cpu.cpl == 3)) b.cpu.cpl → IsNext m (not (b.cpu.cpl == 3)) b
+    → stepped m b ≡ fetches_next m (unheld b) (space_at_start m.mode m.frames b.cpu b.ram b.set)
 step_is m b level next = stepped_by m (not (b.cpu.cpl == 3)) b level next
 
-pub idle : (m : Setting) (b : State) (lost : Lost) (worked : Worked) (board : Board) (t : Space) (new : State) → stepped m b ≡ went_as b worked board t → new.cpu ≡ worked.cpu → new.ram ≡ t.ram → new.board ≡ board_step board → new.step ≡ b.step + 1
-    → IsLeft m new (dropping worked.dropped t.set) lost → direct_in m.image.sites (completed_by worked.completed) ≡ [] → Idle m b false lost worked.seen new
+pub idle : (m : Setting) (b : State) (lost : Lost) (worked : Worked) (board : Board) (t : Space) (new : State)
+    → stepped m b ≡ went_as b worked board t → new.cpu ≡ worked.cpu → new.ram ≡ t.ram → new.board ≡ board_step board → new.step ≡ b.step + 1
+    → IsLeft m new (dropping worked.dropped t.set) lost → direct_in m.image.sites (completed_by worked.completed) ≡ []
+    → Idle m b false lost worked.seen new
 idle m b lost worked board t new e cpu ram boards step left none =
     let whole : Set = dropping worked.dropped t.set in
     record {
       alone = record {
-        report = record { items = items_at b.step (whats worked.seen); completed = completed_by worked.completed; pages = t.visited; tables = t.tables; wrote = t.wrote };
+        report = record {
+          items = items_at b.step (whats worked.seen);
+          completed = completed_by worked.completed;
+          pages = t.visited;
+          tables = t.tables;
+          wrote = t.wrote;
+        };
         whole = whole;
-        went = e ∙ (λ i. Went (record { items = items_at b.step (whats worked.seen); completed = completed_by worked.completed; pages = t.visited; tables = t.tables; wrote = t.wrote }) (record { cpu = sym cpu i; ram = sym ram i; set = whole; board = sym boards i; step = sym step i }));
+        went =
+            e ∙ (λ i. Went (record {
+              items = items_at b.step (whats worked.seen);
+              completed = completed_by worked.completed;
+              pages = t.visited;
+              tables = t.tables;
+              wrote = t.wrote;
+            }) (record { cpu = sym cpu i; ram = sym ram i; set = whole; board = sym boards i; step = sym step i }));
         kept = left;
         items = refl;
       };

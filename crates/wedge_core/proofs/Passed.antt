@@ -18,10 +18,12 @@ use Rattle.wedge_core.proofs.Joined.{steps_join, steps_one}
 pub record CarriesPast (m : Setting) (carried : Set → List Taken → State → Type 0) : Type 0 where
   pub next : (kept : Set) (steps : List Taken) (b : State) → carried kept steps b → IsNextKept m steps b kept
   pub left : (kept : Set) (steps : List Taken) (b : State) → carried kept steps b → IsLeftBehind m steps b kept
-  pub past : (kept : Set) (steps : List Taken) (t : Taken) → IsPast m t → carried kept steps t.before → carried t.after.set (steps ++ t ∷ []) t.after
+  pub past : (kept : Set) (steps : List Taken) (t : Taken) → IsPast m t → carried kept steps t.before
+      → carried t.after.set (steps ++ t ∷ []) t.after
 
 -- The steps so far followed the rule, and all is known after them while the run is roomy.
-pub record SoFarKept (m : Setting) (carried : Set → List Taken → State → Type 0) (old : State) (sets : List Set) (b : State) (kept : Set) : Type 0 where
+pub record SoFarKept (m : Setting) (carried : Set → List Taken → State → Type 0) (old : State) (sets : List Set) (b : State)
+    (kept : Set) : Type 0 where
   pub rule : Kept m old sets
   pub carries : Roomy (steps_by m old sets) → carried kept (steps_by m old sets) b
 
@@ -35,25 +37,32 @@ taken_first m b after set sets report is = ap (λ (r : Result). behind b set r (
 
 module _ (laws : CarryLaws) (m : Setting) (carried : Set → List Taken → State → Type 0) (goes : CarriesPast m carried) (old : State) where
   -- one step more, by what is kept
-  one_more : (sets : List Set) (reports : List Report) (b after : State) (kept : Set) (report : Report) → Steps m old sets reports b → step_of m b kept ≡ Went report after
-      → IsPast m (step_taken b kept report after) → SoFarKept m carried old sets b kept → SoFarKept m carried old (sets ++ kept ∷ []) after after.set
+  one_more : (sets : List Set) (reports : List Report) (b after : State) (kept : Set) (report : Report) → Steps m old sets reports b
+      → step_of m b kept ≡ Went report after
+      → IsPast m (step_taken b kept report after) → SoFarKept m carried old sets b kept
+      → SoFarKept m carried old (sets ++ kept ∷ []) after after.set
   one_more sets reports b after kept report steps is past k =
       let t = step_taken b kept report after in
-      let joined : steps_by m old (sets ++ kept ∷ []) ≡ steps_by m old sets ++ t ∷ [] = laws.joins m old b after sets kept reports report steps is in
+      let joined : steps_by m old (sets ++ kept ∷ []) ≡ steps_by m old sets ++ t ∷ [] =
+      laws.joins m old b after sets kept reports report steps is in
       record {
-        rule = laws.rule m old b sets kept reports steps k.rule (λ roomy. goes.next kept (steps_by m old sets) b (k.carries roomy) kept (inl refl));
+        rule = laws.rule m old b sets kept reports steps k.rule
+            (λ roomy. goes.next kept (steps_by m old sets) b (k.carries roomy) kept (inl refl));
         carries = λ roomy.
             let before : Roomy (steps_by m old sets) = laws.known.before (steps_by m old sets) t (subst Roomy joined roomy) in
-            subst (λ (l : List Taken). carried after.set l after) (sym joined) (goes.past kept (steps_by m old sets) t past (k.carries before));
+            subst (λ (l : List Taken). carried after.set l after) (sym joined)
+            (goes.past kept (steps_by m old sets) t past (k.carries before));
       }
 
-  is_past : (b after : State) (kept : Set) (report : Report) → step_of m b kept ≡ Went report after → 4096 * m.frames ≤ length b.ram → IsQuiet (step_taken b kept report after)
+  is_past : (b after : State) (kept : Set) (report : Report) → step_of m b kept ≡ Went report after → 4096 * m.frames ≤ length b.ram
+      → IsQuiet (step_taken b kept report after)
       → IsPast m (step_taken b kept report after)
   is_past b after kept report is room quiet = record { went = is; room = room; plain = quiet.through; value = quiet.cr3 }
 
   -- some steps more, each by what the one before left
   pub some_more : (n : ℕ) (sets : List Set) (reports : List Report) (b mid new : State) (kept : Set) (report : Report) (later : List Report)
-      → Steps m old sets reports b → Loosened m b kept → step_of m b kept ≡ Went report mid → Steps m mid (replicate n kept) later new → AreLeft m mid (replicate n kept)
+      → Steps m old sets reports b → Loosened m b kept → step_of m b kept ≡ Went report mid → Steps m mid (replicate n kept) later new
+      → AreLeft m mid (replicate n kept)
       → IsQuiet (step_taken b kept report mid) → All IsQuiet (steps_by m mid (replicate n kept)) → 4096 * m.frames ≤ length b.ram
       → SoFarKept m carried old sets b kept → SoFarKept m carried old (sets ++ kept ∷ replicate n kept) new new.set
   unfolding Steps
@@ -63,10 +72,14 @@ module _ (laws : CarryLaws) (m : Setting) (carried : Set → List Taken → Stat
   some_more (suc n) sets reports b mid new kept report later steps allowed is rest left quiet quiets room k =
       let here = one_more sets reports b mid kept report steps is (is_past b mid kept report is room quiet) k in
       let t = step_taken mid kept rest.1 rest.0 in
-      let next : All IsQuiet (t ∷ steps_by m rest.0 (replicate n kept)) = subst (All IsQuiet) (taken_first m mid rest.0 kept (replicate n kept) rest.1 rest.4) quiets in
-      let steps_then : Steps m old (sets ++ kept ∷ []) (reports ++ report ∷ []) mid = steps_join m old b mid sets (kept ∷ []) reports (report ∷ []) steps (steps_one m b mid kept report allowed is) in
+      let next : All IsQuiet (t ∷ steps_by m rest.0 (replicate n kept)) =
+      subst (All IsQuiet) (taken_first m mid rest.0 kept (replicate n kept) rest.1 rest.4) quiets in
+      let steps_then : Steps m old (sets ++ kept ∷ []) (reports ++ report ∷ []) mid =
+      steps_join m old b mid sets (kept ∷ []) reports (report ∷ []) steps (steps_one m b mid kept report allowed is) in
       let size = quiet.size in
       subst (λ (l : List Set). SoFarKept m carried old l new new.set) (append_assoc sets (kept ∷ []) (kept ∷ replicate n kept))
-      (some_more n (sets ++ kept ∷ []) (reports ++ report ∷ []) mid rest.0 new kept rest.1 rest.2 steps_then rest.3 rest.4 rest.5 (left.1 rest.1 rest.0 rest.4)
-      (All-head IsQuiet t (steps_by m rest.0 (replicate n kept)) next) (All-tail IsQuiet t (steps_by m rest.0 (replicate n kept)) next) (omega (arith, room, size))
+      (some_more n (sets ++ kept ∷ []) (reports ++ report ∷ []) mid rest.0 new kept rest.1 rest.2 steps_then rest.3 rest.4 rest.5
+      (left.1 rest.1 rest.0 rest.4)
+      (All-head IsQuiet t (steps_by m rest.0 (replicate n kept)) next) (All-tail IsQuiet t (steps_by m rest.0 (replicate n kept)) next)
+      (omega (arith, room, size))
       (subst (SoFarKept m carried old (sets ++ kept ∷ []) mid) (sym left.0) here))

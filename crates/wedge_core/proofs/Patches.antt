@@ -14,7 +14,8 @@ pub inside_moved : (len new at : ℕ) (sites : List Site) → at + len ≤ new �
 inside_moved len new at [] le h = tt
 inside_moved len new at (s ∷ sites) le h = let fits = h.1 in (h.0, omega (arith, fits, le), inside_moved len new at sites le h.2)
 
-take_with : (m : List ℕ) (a : ℕ) (bs : List ℕ) (k : ℕ) → a + length bs ≤ k → k ≤ length m → take k (with_part m a bs) ≡ with_part (take k m) a bs
+take_with : (m : List ℕ) (a : ℕ) (bs : List ℕ) (k : ℕ) → a + length bs ≤ k → k ≤ length m
+    → take k (with_part m a bs) ≡ with_part (take k m) a bs
 unfolding with_part
 take_with m a bs k le fits =
     let n = a + length bs in
@@ -23,16 +24,19 @@ take_with m a bs k le fits =
     let z = drop k m in
     let whole = with_part m a bs in
     let long = length-take-le k m fits in
-    let rest : y ++ z ≡ drop n m = sym (drop-append-le n (take k m) z (omega (arith, long, le))) ∙ ap (λ (l : List ℕ). drop n l) (take-append-drop k m) in
+    let rest : y ++ z ≡ drop n m =
+    sym (drop-append-le n (take k m) z (omega (arith, long, le))) ∙ ap (λ (l : List ℕ). drop n l) (take-append-drop k m) in
     let joined : (x ++ (bs ++ y)) ++ z ≡ whole =
     append_assoc x (bs ++ y) z
     ∙ (ap (λ (l : List ℕ). x ++ l) (append_assoc bs y z)
     ∙ (ap (λ (l : List ℕ). x ++ (bs ++ l)) rest ∙ ap (λ (l : List ℕ). l ++ (bs ++ drop n m)) (take-take a k m (omega (arith, le))))) in
     append_cancel_right (take k whole) (x ++ (bs ++ y)) z
-    (ap (λ (l : List ℕ). take k whole ++ l) (sym (drop-with_part m a bs k le (omega (arith, le, fits)))) ∙ (take-append-drop k whole ∙ sym joined))
+    (ap (λ (l : List ℕ). take k whole ++ l) (sym (drop-with_part m a bs k le (omega (arith, le, fits))))
+    ∙ (take-append-drop k whole ∙ sym joined))
 
 -- with the text laid over it, it is as it was
-pub unpatched : (m : Setting) (ram patches : List ℕ) → length patches ≡ length m.image.text → 0x100000 + length m.image.text ≤ 4096 * m.frames → 4096 * m.frames ≤ length ram
+pub unpatched : (m : Setting) (ram patches : List ℕ) → length patches ≡ length m.image.text → 0x100000
+    + length m.image.text ≤ 4096 * m.frames → 4096 * m.frames ≤ length ram
     → part ram 0x100000 (length m.image.text) ≡ m.image.text → shown m (with_part ram 0x100000 patches) ≡ take (4096 * m.frames) ram
 unfolding shown
 unpatched m ram patches same room fits text =

@@ -118,7 +118,8 @@ plain_outcome : (insn : Insn) (len : ℕ) (cpu : Cpu) → is_plain insn.op ≡ t
 unfolding completed
 plain_outcome insn len cpu e (Ok x) =
     plainly cpu x.1 (effect insn len cpu.regs (byte_of (ranges_of insn cpu.regs) x.1))
-    ∙ ap (λ (o : exec.Outcome). user_finished cpu o x.1) (sym (plain_effect (selectors_of cpu) insn len cpu.regs (byte_of (ranges_of insn cpu.regs) x.1) e))
+    ∙ ap (λ (o : exec.Outcome). user_finished cpu o x.1)
+    (sym (plain_effect (selectors_of cpu) insn len cpu.regs (byte_of (ranges_of insn cpu.regs) x.1) e))
 plain_outcome insn len cpu e (Err refused) = refl
 
 plain_divides : (insn : Insn) (len : ℕ) (cpu : Cpu) (s : Space) → is_plain insn.op ≡ true
@@ -131,21 +132,26 @@ plain_divides insn len cpu s e =
 -- ---- a sensitive one, by a user
 
 -- bytes of the read range, by the translations that it had
-bytes_same : (cpu : Cpu) (read write : Option Range) (s t : Space) → reached cpu true write s ≡ Ok (tt, t) → byte_by read s t ≡ byte_of (record { read = read; write = write }) t
+bytes_same : (cpu : Cpu) (read write : Option Range) (s t : Space) → reached cpu true write s ≡ Ok (tt, t)
+    → byte_by read s t ≡ byte_of (record { read = read; write = write }) t
 unfolding byte_at place
-bytes_same cpu read None s t e = subst (λ (x : Space). byte_by read s x ≡ byte_of (record { read = read; write = None }) x) (nothing_reached s t e) refl
+bytes_same cpu read None s t e =
+    subst (λ (x : Space). byte_by read s x ≡ byte_of (record { read = read; write = None }) x) (nothing_reached s t e) refl
 bytes_same cpu read (Some w) s t e =
-    ap (λ (x : FinMap nat_cmp Entry). λ (at : ℕ). cond (is_in read at) (bytes.byte t.ram (place_by (get x (at / 4096)) at)) (bytes.byte t.ram (place_by (get t.set (at / 4096)) at)))
+    ap (λ (x : FinMap nat_cmp Entry). λ (at : ℕ). cond (is_in read at) (bytes.byte t.ram (place_by (get x (at / 4096)) at))
+    (bytes.byte t.ram (place_by (get t.set (at / 4096)) at)))
     (sym (reaching_earlier s t w.at w.len (record { write = true; user = cpu.cpl == 3 }) e))
 
 module _ (cpu : Cpu) (f : (ℕ → ℕ) → exec.Outcome) where
   nulls : (a b : Bool) (k : Space → Outcome Refusal SysOutcome) (s : Space)
-      → on_value (unless (refusal.Raise 13 0) (not a) s) (λ _ t. on_value (unless (refusal.Raise 13 0) (not b) t) (λ _. k)) ≡ on_value (unless (refusal.Raise 13 0) (not (a || b)) s) (λ _. k)
+      → on_value (unless (refusal.Raise 13 0) (not a) s) (λ _ t. on_value (unless (refusal.Raise 13 0) (not b) t) (λ _. k)) ≡ on_value
+      (unless (refusal.Raise 13 0) (not (a || b)) s) (λ _. k)
   nulls true b k s = refl
   nulls false b k s = refl
 
   both_null : (read write : Option Range) (k : Space → Outcome Refusal SysOutcome) (s : Space)
-      → on_value (unnull cpu read s) (λ _ t. on_value (unnull cpu write t) (λ _. k)) ≡ on_value (unless (refusal.Raise 13 0) (not (is_denied cpu read || is_denied cpu write)) s) (λ _. k)
+      → on_value (unnull cpu read s) (λ _ t. on_value (unnull cpu write t) (λ _. k)) ≡ on_value
+      (unless (refusal.Raise 13 0) (not (is_denied cpu read || is_denied cpu write)) s) (λ _. k)
   both_null None None k s = nulls false false k s
   both_null None (Some w) k s = nulls false (is_denied cpu (Some w)) k s
   both_null (Some r) None k s = nulls (is_denied cpu (Some r)) false k s
@@ -160,12 +166,14 @@ module _ (cpu : Cpu) (f : (ℕ → ℕ) → exec.Outcome) where
   by_writes read write s (Err refused) e = refl
 
   by_reads : (read write : Option Range) (o : Outcome Refusal (Unit {0}))
-      → on_value o (λ _ s. on_value (reached cpu true write s) (λ _ t. user_finished cpu (f (byte_by read s t)) t)) ≡ on_value (on_value o (λ _. reached cpu true write)) (λ _. ended_by read write)
+      → on_value o (λ _ s. on_value (reached cpu true write s) (λ _ t. user_finished cpu (f (byte_by read s t)) t)) ≡ on_value
+      (on_value o (λ _. reached cpu true write)) (λ _. ended_by read write)
   by_reads read write (Ok x) = by_writes read write x.1 (reached cpu true write x.1) refl
   by_reads read write (Err refused) = refl
 
   by_nulls : (read write : Option Range) (o : Outcome Refusal (Unit {0}))
-      → on_value o (λ _ s. on_value (reached cpu false read s) (λ _ t. on_value (reached cpu true write t) (λ _ u. user_finished cpu (f (byte_by read t u)) u)))
+      → on_value o (λ _ s. on_value (reached cpu false read s)
+      (λ _ t. on_value (reached cpu true write t) (λ _ u. user_finished cpu (f (byte_by read t u)) u)))
       ≡ on_value (on_value o (λ _ s. on_value (reached cpu false read s) (λ _. reached cpu true write))) (λ _. ended_by read write)
   by_nulls read write (Ok x) = by_reads read write (reached cpu false read x.1)
   by_nulls read write (Err refused) = refl
@@ -173,7 +181,9 @@ module _ (cpu : Cpu) (f : (ℕ → ℕ) → exec.Outcome) where
   form_divides : (x : Ranges) (s : Space) → user_form cpu x f s ≡ on_value (both_reached cpu x s) (λ _. ended_by x.read x.write)
   unfolding both_reached
   form_divides x s =
-      both_null x.read x.write (λ t. on_value (reached cpu false x.read t) (λ _ u. on_value (reached cpu true x.write u) (λ _ v. user_finished cpu (f (byte_by x.read u v)) v))) s
+      both_null x.read x.write
+      (λ t. on_value (reached cpu false x.read t)
+      (λ _ u. on_value (reached cpu true x.write u) (λ _ v. user_finished cpu (f (byte_by x.read u v)) v))) s
       ∙ by_nulls x.read x.write (unless (refusal.Raise 13 0) (not (is_refused cpu x)) s)
 
 site_outcome : (insn : Insn) (len : ℕ) (cpu : Cpu) (o : Outcome Refusal (Unit {0}))
@@ -181,7 +191,8 @@ site_outcome : (insn : Insn) (len : ℕ) (cpu : Cpu) (o : Outcome Refusal (Unit 
 site_outcome insn len cpu (Ok x) = refl
 site_outcome insn len cpu (Err refused) = refl
 
-site_divides : (insn : Insn) (len : ℕ) (cpu : Cpu) (s : Space) → is_plain insn.op ≡ false → IsUserSite insn.op → IsUser cpu → ((found : List ℕ) × Spells found insn)
+site_divides : (insn : Insn) (len : ℕ) (cpu : Cpu) (s : Space) → is_plain insn.op ≡ false → IsUserSite insn.op → IsUser cpu
+    → ((found : List ℕ) × Spells found insn)
     → instructed insn len cpu s ≡ on_value (both_reached cpu (ranges_of insn cpu.regs) s) (λ _. done_in insn len cpu)
 unfolding instructed user_executed
 site_divides insn len cpu s e site user spelled =
@@ -192,11 +203,13 @@ site_divides insn len cpu s e site user spelled =
 
 -- ---- either
 
-native_divides : (insn : Insn) (len : ℕ) (cpu : Cpu) (s : Space) → IsAble cpu → is_native (cpu.cpl == 3) insn.op ≡ true → ((found : List ℕ) × Spells found insn)
+native_divides : (insn : Insn) (len : ℕ) (cpu : Cpu) (s : Space) → IsAble cpu → is_native (cpu.cpl == 3) insn.op ≡ true
+    → ((found : List ℕ) × Spells found insn)
     → instructed insn len cpu s ≡ on_value (both_reached cpu (ranges_of insn cpu.regs) s) (λ _. done_in insn len cpu)
 native_divides insn len cpu s able native spelled = by_level (cpu.cpl == 3) refl
   where
-    by_level : (user : Bool) → (cpu.cpl == 3) ≡ user → instructed insn len cpu s ≡ on_value (both_reached cpu (ranges_of insn cpu.regs) s) (λ _. done_in insn len cpu)
+    by_level : (user : Bool) → (cpu.cpl == 3) ≡ user → instructed insn len cpu s ≡ on_value (both_reached cpu (ranges_of insn cpu.regs) s)
+        (λ _. done_in insn len cpu)
     by_level false e = plain_divides insn len cpu s (plain_by insn.op (ap (λ (u : Bool). is_native u insn.op) (sym e) ∙ native))
     by_level true e = elim (plain_or_site insn.op (ap (λ (u : Bool). is_native u insn.op) (sym e) ∙ native)) [
       | inl plain ↦ plain_divides insn len cpu s plain
@@ -205,10 +218,13 @@ native_divides insn len cpu s able native spelled = by_level (cpu.cpl == 3) refl
 
 left_refused : (cpu : Cpu) (o : exec.Outcome) (s : Space) (x : Refusal × Space) → left_undone o s ≡ Err x → user_finished cpu o s ≡ Err x
 left_refused cpu (outcomes.Done regs stores) s x e = absurd cc
-left_refused cpu (outcomes.Raise vector code) s x e = let p : ◌≡◌ {A = Refusal × Space} (refusal.Raise vector code, s) x = cc in ap (λ (y : Refusal × Space). Err y) p
-left_refused cpu (outcomes.Stop stop) s x e = let p : ◌≡◌ {A = Refusal × Space} (refusal.Stop stop, s) x = cc in ap (λ (y : Refusal × Space). Err y) p
+left_refused cpu (outcomes.Raise vector code) s x e = let p : ◌≡◌ {A = Refusal × Space} (refusal.Raise vector code, s) x =
+    cc in ap (λ (y : Refusal × Space). Err y) p
+left_refused cpu (outcomes.Stop stop) s x e = let p : ◌≡◌ {A = Refusal × Space} (refusal.Stop stop, s) x =
+    cc in ap (λ (y : Refusal × Space). Err y) p
 
-refused_on : (insn : Insn) (len : ℕ) (cpu : Cpu) (o : Outcome Refusal (Unit {0})) (x : Refusal × Space) → on_value o (λ _. weighed insn len cpu) ≡ Err x → on_value o (λ _. done_in insn len cpu) ≡ Err x
+refused_on : (insn : Insn) (len : ℕ) (cpu : Cpu) (o : Outcome Refusal (Unit {0})) (x : Refusal × Space)
+    → on_value o (λ _. weighed insn len cpu) ≡ Err x → on_value o (λ _. done_in insn len cpu) ≡ Err x
 refused_on insn len cpu (Ok y) x e = left_refused cpu (effect_in insn len cpu y.1) y.1 x e
 refused_on insn len cpu (Err y) x e = let p : y ≡ x = cc in ap (λ (z : Refusal × Space). Err z) p
 
@@ -216,21 +232,26 @@ soft_by : (user : Bool) (o : Op) (imm : ℕ) → is_native user o ≡ true → i
 soft_by user o imm native = not_soft o imm (permitted_by user o imm native)
 
 -- where it isn't prepared, the step goes on by the refusal
-pub refused_as : (m : Setting) (b : State) (insn : Insn) (len : ℕ) (s : Space) → IsAble b.cpu → is_native (b.cpu.cpl == 3) insn.op ≡ true → ((found : List ℕ) × Spells found insn)
+pub refused_as : (m : Setting) (b : State) (insn : Insn) (len : ℕ) (s : Space) → IsAble b.cpu → is_native (b.cpu.cpl == 3) insn.op ≡ true
+    → ((found : List ℕ) × Spells found insn)
     → (r : Refusal) (t : Space) → prepared insn len b.cpu s ≡ Err (r, t) → by_decoded m b (begins.Insn insn len) s ≡ after_refusal m b r t
 unfolding prepared
 refused_as m b insn len s able native spelled r t e =
     by_op_is m insn.op b insn len s (soft_by (b.cpu.cpl == 3) insn.op insn.imm native)
-    ∙ (ap (after_instruction m b (begun b insn)) (native_divides insn len b.cpu s able native spelled ∙ refused_on insn len b.cpu (both_reached b.cpu (ranges_of insn b.cpu.regs) s) (r, t) e)
+    ∙ (ap (after_instruction m b (begun b insn))
+    (native_divides insn len b.cpu s able native spelled ∙ refused_on insn len b.cpu
+    (both_reached b.cpu (ranges_of insn b.cpu.regs) s) (r, t) e)
     ∙ refused_same m b (begun b insn) r t)
 
 -- ---- where it is prepared
 
-value_parts : (o : Outcome Refusal (Unit {0})) (f : Work Refusal (Unit {0})) (x : Unit {0} × Space) → on_value o (λ _. f) ≡ Ok x → (u : Space) × ((o ≡ Ok (tt, u)) × (f u ≡ Ok x))
+value_parts : (o : Outcome Refusal (Unit {0})) (f : Work Refusal (Unit {0})) (x : Unit {0} × Space) → on_value o (λ _. f) ≡ Ok x
+    → (u : Space) × ((o ≡ Ok (tt, u)) × (f u ≡ Ok x))
 value_parts (Ok y) f x e = (y.1, (refl, e))
 value_parts (Err refused) f x e = absurd cc
 
-left_done : (o : exec.Outcome) (s t : Space) → left_undone o s ≡ Ok (tt, t) → (s ≡ t) × ((regs : Regs) × ((stores : Stores) × (o ≡ outcomes.Done regs stores)))
+left_done : (o : exec.Outcome) (s t : Space) → left_undone o s ≡ Ok (tt, t) → (s ≡ t)
+    × ((regs : Regs) × ((stores : Stores) × (o ≡ outcomes.Done regs stores)))
 left_done (outcomes.Done regs stores) s t e = (nothing_reached s t e, (regs, (stores, refl)))
 left_done (outcomes.Raise vector code) s t e = absurd cc
 left_done (outcomes.Stop stop) s t e = absurd cc
@@ -248,7 +269,8 @@ record AreReached (cpu : Cpu) (x : Ranges) (s t : Space) : Type 0 where
 reached_parts : (cpu : Cpu) (x : Ranges) (s t : Space) → both_reached cpu x s ≡ Ok (tt, t) → AreReached cpu x s t
 unfolding both_reached
 reached_parts cpu x s t e =
-    let p = value_parts (unless (refusal.Raise 13 0) (not (is_refused cpu x)) s) (λ u. on_value (reached cpu false x.read u) (λ _. reached cpu true x.write)) (tt, t) e in
+    let p = value_parts (unless (refusal.Raise 13 0) (not (is_refused cpu x)) s)
+    (λ u. on_value (reached cpu false x.read u) (λ _. reached cpu true x.write)) (tt, t) e in
     let q = unless_parts (is_refused cpu x) s p.0 p.1.0 in
     let r = value_parts (reached cpu false x.read p.0) (reached cpu true x.write) (tt, t) p.1.1 in
     record {
@@ -258,13 +280,15 @@ reached_parts cpu x s t e =
       writes = r.1.1;
     }
 
-pub prepared_is : (b : State) (s fetch t : Space) (insn : Insn) (len : ℕ) → fetched (b.cpu.cpl == 3) b.cpu.regs.eip s ≡ Ok (begins.Insn insn len, fetch) → is_native (b.cpu.cpl == 3) insn.op ≡ true
+pub prepared_is : (b : State) (s fetch t : Space) (insn : Insn) (len : ℕ)
+    → fetched (b.cpu.cpl == 3) b.cpu.regs.eip s ≡ Ok (begins.Insn insn len, fetch) → is_native (b.cpu.cpl == 3) insn.op ≡ true
     → prepared insn len b.cpu fetch ≡ Ok (tt, t) → IsPrepared b s t
 unfolding prepared permitted
 prepared_is b s fetch t insn len fetches native e =
     let p = value_parts (both_reached b.cpu (ranges_of insn b.cpu.regs) fetch) (weighed insn len b.cpu) (tt, t) e in
     let q = left_done (effect_in insn len b.cpu p.0) p.0 t p.1.1 in
-    let r = reached_parts b.cpu (ranges_of insn b.cpu.regs) fetch t (subst (λ (u : Space). both_reached b.cpu (ranges_of insn b.cpu.regs) fetch ≡ Ok (tt, u)) q.0 p.1.0) in
+    let r = reached_parts b.cpu (ranges_of insn b.cpu.regs) fetch t
+    (subst (λ (u : Space). both_reached b.cpu (ranges_of insn b.cpu.regs) fetch ≡ Ok (tt, u)) q.0 p.1.0) in
     record {
       insn = insn;
       len = len;

@@ -34,8 +34,10 @@ own_side Kernel = refl
 own_side User = refl
 
 -- the slot that a fill makes lets pass what the entry does
-lets_pass : (write_protected : List ℕ) (side : Side) (entry : Entry) (wp write : Bool) → allows entry (record { write = write; user = is_user side }) wp ≡ true
-    → (write ≡ true → is_among entry.frame write_protected ≡ false) → is_adequate (Some (filled (is_among entry.frame write_protected) side entry wp)) side write ≡ true
+lets_pass : (write_protected : List ℕ) (side : Side) (entry : Entry) (wp write : Bool)
+    → allows entry (record { write = write; user = is_user side }) wp ≡ true
+    → (write ≡ true → is_among entry.frame write_protected ≡ false)
+    → is_adequate (Some (filled (is_among entry.frame write_protected) side entry wp)) side write ≡ true
 lets_pass write_protected side entry wp false allowed free = ap (λ b. b && permits side entry false wp) (own_side side) ∙ allowed
 lets_pass write_protected side entry wp true allowed free =
     ap (λ b. b && (not (is_among entry.frame write_protected) && permits side entry true wp)) (own_side side)
@@ -45,7 +47,8 @@ lets_pass write_protected side entry wp true allowed free =
 leads_there : (n frame : ℕ) → frame < n → frame_below n frame ≡ Some frame
 leads_there n frame lt = ap (λ b. cond b None (Some frame)) (lt-leb n frame lt)
 
-pub reached_now : (image : Image) (side : Side) (wp : Bool) (s : Space) (old new : ℕ → Option Slot) (pages write_protected : List ℕ) (memory : List ℕ) (root page : ℕ) (write : Bool)
+pub reached_now : (image : Image) (side : Side) (wp : Bool) (s : Space) (old new : ℕ → Option Slot) (pages write_protected : List ℕ)
+    (memory : List ℕ) (root page : ℕ) (write : Bool)
     → Closes old new s.set pages side wp write_protected s.wrote → page < 2 ^ 20 → is_among page pages ≡ true
     → reached memory (length memory / 4096) root page write ≡ lent (length memory / 4096) (new page) side write
     → ((entry : Entry) → get s.set page ≡ Some entry → entry.frame < length memory / 4096)
@@ -53,8 +56,10 @@ pub reached_now : (image : Image) (side : Side) (wp : Bool) (s : Space) (old new
 reached_now image side wp s old new pages write_protected memory root page write closes small there host within g =
     let slot = filled (is_among g.entry.frame write_protected) side g.entry wp in
     let kept : new page ≡ Some slot = closes.settles.through page small there ∙ ap (filled_by side wp write_protected) g.kept in
-    let allowed : allows g.entry (record { write = write; user = is_user side }) wp ≡ true = ap (λ (u : Bool). allows g.entry (record { write = write; user = u }) wp) (sym (user_is side)) ∙ g.allowed in
-    let adequate = lets_pass write_protected side g.entry wp write allowed (λ w. closes.unprotected g.entry.frame (contains_among s.wrote g.entry.frame (g.told w))) in (
+    let allowed : allows g.entry (record { write = write; user = is_user side }) wp ≡ true =
+    ap (λ (u : Bool). allows g.entry (record { write = write; user = u }) wp) (sym (user_is side)) ∙ g.allowed in
+    let adequate = lets_pass write_protected side g.entry wp write allowed
+    (λ w. closes.unprotected g.entry.frame (contains_among s.wrote g.entry.frame (g.told w))) in (
       g.entry.frame,
       host
           ∙ ap (λ (o : Option Slot). lent (length memory / 4096) o side write) kept
@@ -63,23 +68,29 @@ reached_now image side wp s old new pages write_protected memory root page write
     )
 
 -- all pages that the instruction uses
-module _ (image : Image) (side : Side) (wp : Bool) (s : Space) (old new : ℕ → Option Slot) (pages write_protected : List ℕ) (memory : List ℕ) (root : ℕ) (closes : Closes old new s.set pages side wp write_protected s.wrote)
-    (through : (page : ℕ) → Contains s.visited page → is_among page pages ≡ true) (beyond : (page : ℕ) → 2 ^ 20 ≤ page → get s.set page ≡ None)
-    (host : (page : ℕ) (write : Bool) → page < 2 ^ 20 → reached memory (length memory / 4096) root page write ≡ lent (length memory / 4096) (new page) side write)
+module _ (image : Image) (side : Side) (wp : Bool) (s : Space) (old new : ℕ → Option Slot) (pages write_protected : List ℕ)
+    (memory : List ℕ) (root : ℕ) (closes : Closes old new s.set pages side wp write_protected s.wrote)
+    (through : (page : ℕ) → Contains s.visited page → is_among page pages ≡ true)
+    (beyond : (page : ℕ) → 2 ^ 20 ≤ page → get s.set page ≡ None)
+    (host : (page : ℕ) (write : Bool) → page < 2 ^ 20 → reached memory (length memory / 4096) root page write ≡ lent (length memory / 4096)
+    (new page) side write)
     (within : (page : ℕ) (entry : Entry) → get s.set page ≡ Some entry → entry.frame < length memory / 4096)
   where
     page_reached : (page : ℕ) (write : Bool) → IsGranted image (is_kernel side) wp s write page → IsReached memory root write page
     page_reached page write g =
         elim (cases_lt page (2 ^ 20)) [
-          | inl small ↦ reached_now image side wp s old new pages write_protected memory root page write closes small (through page g.through) (host page write small) (within page) g
+          | inl small ↦ reached_now image side wp s old new pages write_protected memory root page write closes small
+              (through page g.through) (host page write small) (within page) g
           | inr high ↦ absurd (none_some g.entry (sym (beyond page high) ∙ g.kept))
         ]
 
-    range_reached : (write : Bool) (o : Option Range) → IsRangeGranted image (is_kernel side) wp s write o → IsRangeReached memory root write o
+    range_reached : (write : Bool) (o : Option Range) → IsRangeGranted image (is_kernel side) wp s write o
+        → IsRangeReached memory root write o
     range_reached write None h = tt
     range_reached write (Some r) h = (page_reached (r.at / 4096) write h.0, page_reached (last_page r) write h.1)
 
-    pub all_reached : (fetch : List ℕ) (ranges : Ranges) → AreGranted image (is_kernel side) wp s fetch ranges → AreReached memory root fetch ranges
+    pub all_reached : (fetch : List ℕ) (ranges : Ranges) → AreGranted image (is_kernel side) wp s fetch ranges
+        → AreReached memory root fetch ranges
     all_reached fetch ranges g = record {
       fetch = λ page c. page_reached page false (g.fetch page c);
       read = range_reached false ranges.read g.read;

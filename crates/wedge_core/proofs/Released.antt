@@ -18,7 +18,8 @@ use Rattle.wedge_step.proofs.Memories.{front_same, host_same, text_within}
 use Rattle.wedge_step.proofs.Opening.{none_open}
 
 pub held_on : (image : Image) (frames : ℕ) (g : Running Roots) (s : Roots) (p p' : Pool) (m m' : List ℕ)
-    → ∥ roots.stands s m' ∥₁ → ((page : ℕ) → page < 2 ^ 20 → roots.slots s m' page ≡ None) → entries_of (roots.slots s m') ≡ empty → length (roots.frames s m') ≡ 2 → Owns p' m' (roots.frames s m')
+    → ∥ roots.stands s m' ∥₁ → ((page : ℕ) → page < 2 ^ 20 → roots.slots s m' page ≡ None) → entries_of (roots.slots s m') ≡ empty
+    → length (roots.frames s m') ≡ 2 → Owns p' m' (roots.frames s m')
     → Moves p p' m m' (roots.frames g.shadows m) (roots.frames s m') → IsHeld of_roots (ground image frames) g p m
     → IsHeld of_roots (ground image frames) (record g { shadows = s; held = 2 }) p' m'
 held_on image frames g s p p' m m' stands none entries two owns moves h =

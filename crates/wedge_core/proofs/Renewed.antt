@@ -16,7 +16,8 @@ use Rattle.wedge_core.proofs.Released.{held_on}
 
 -- it is held as before
 pub held_anew : (image : Image) (frames : ℕ) (g : Running Roots) (s : Roots) (p p' : Pool) (m m' : List ℕ) → g.held ≡ 2
-    → ∥ roots.stands s m' ∥₁ → ((page : ℕ) → page < 2 ^ 20 → roots.slots s m' page ≡ None) → entries_of (roots.slots s m') ≡ empty → length (roots.frames s m') ≡ 2 → Owns p' m' (roots.frames s m')
+    → ∥ roots.stands s m' ∥₁ → ((page : ℕ) → page < 2 ^ 20 → roots.slots s m' page ≡ None) → entries_of (roots.slots s m') ≡ empty
+    → length (roots.frames s m') ≡ 2 → Owns p' m' (roots.frames s m')
     → Moves p p' m m' (roots.frames g.shadows m) (roots.frames s m') → IsHeld of_roots (ground image frames) g p m
     → IsHeld of_roots (ground image frames) (record g { shadows = s }) p' m'
 held_anew image frames g s p p' m m' held stands none entries two owns moves h =
@@ -24,9 +25,12 @@ held_anew image frames g s p p' m m' held stands none entries two owns moves h =
     (held_on image frames g s p p' m m' stands none entries two owns moves h)
 
 -- and stands for the same state
-pub state_anew : (image : Image) (frames : ℕ) (g : Running Roots) (s : Roots) (p p' : Pool) (m m' : List ℕ) → IsHeld of_roots (ground image frames) g p m
-    → Moves p p' m m' (roots.frames g.shadows m) (roots.frames s m') → entries_of (roots.slots g.shadows m) ≡ empty → entries_of (roots.slots s m') ≡ empty
-    → (setting : Setting) → setting.frames ≡ frames → state_of of_roots setting (record g { shadows = s }) m' ≡ state_of of_roots setting g m
+pub state_anew : (image : Image) (frames : ℕ) (g : Running Roots) (s : Roots) (p p' : Pool) (m m' : List ℕ)
+    → IsHeld of_roots (ground image frames) g p m
+    → Moves p p' m m' (roots.frames g.shadows m) (roots.frames s m') → entries_of (roots.slots g.shadows m) ≡ empty
+    → entries_of (roots.slots s m') ≡ empty
+    → (setting : Setting) → setting.frames ≡ frames → state_of of_roots setting (record g { shadows = s }) m' ≡ state_of
+    of_roots setting g m
 state_anew image frames g s p p' m m' h moves before after setting is =
     let low = h.behind in
     let front = front_same setting.frames p p' m m' (roots.frames g.shadows m) (roots.frames s m') (omega (arith, low, is)) h.owns moves in

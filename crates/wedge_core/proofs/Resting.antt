@@ -33,11 +33,13 @@ counts_stay m k counts = record {
 
 -- no step passes
 pub rests_none : (m : Setting) (b : State) (counts : Counts) → Passes m b b counts counts
-rests_none m b counts = record { n = 0; reports = []; steps = no_steps m b; sets = tt; quiet = All-nil IsQuiet; silent = refl; counts = counts_stay m 0 counts }
+rests_none m b counts =
+    record { n = 0; reports = []; steps = no_steps m b; sets = tt; quiet = All-nil IsQuiet; silent = refl; counts = counts_stay m 0 counts }
 
 module _ (halted : HaltedSteps) where
   -- none of them changes the translations
-  idle_left : (k : ℕ) (s : Setting) (cpu : Cpu) (ram : List ℕ) (set : Set) (board : Board) (t : ℕ) → SleepsThrough cpu board s.script t (suc k)
+  idle_left : (k : ℕ) (s : Setting) (cpu : Cpu) (ram : List ℕ) (set : Set) (board : Board) (t : ℕ)
+      → SleepsThrough cpu board s.script t (suc k)
       → AreLeft s (resting cpu ram set board (t + 1)) (set ∷ replicate k set)
   idle_left zero s cpu ram set board t sleeps = (refl, λ now mid is. tt)
   idle_left (suc k) s cpu ram set board t sleeps =
@@ -62,14 +64,17 @@ module _ (halted : HaltedSteps) where
       subst (All IsQuiet) (sym (ap (λ (r : Result). behind b set r (λ a. steps_by s a (replicate k set))) goes))
       (All-cons IsQuiet taken (steps_by s next (replicate k set)) one rest)
 
-  idle_quiet : (k : ℕ) (s : Setting) (cpu : Cpu) (ram : List ℕ) (set : Set) (board : Board) (t : ℕ) → SleepsThrough cpu board s.script t (suc k)
+  idle_quiet : (k : ℕ) (s : Setting) (cpu : Cpu) (ram : List ℕ) (set : Set) (board : Board) (t : ℕ)
+      → SleepsThrough cpu board s.script t (suc k)
       → All IsQuiet (steps_by s (resting cpu ram set board (t + 1)) (set ∷ replicate k set))
-  idle_quiet zero s cpu ram set board t sleeps = quiet_first 0 s cpu ram set board t ((halted.each s cpu ram board t 0 sleeps).goes set set) (All-nil IsQuiet)
+  idle_quiet zero s cpu ram set board t sleeps =
+      quiet_first 0 s cpu ram set board t ((halted.each s cpu ram board t 0 sleeps).goes set set) (All-nil IsQuiet)
   idle_quiet (suc k) s cpu ram set board t sleeps =
       let here = halted.each s cpu ram board t (suc k) sleeps in
       quiet_first (suc k) s cpu ram set board t (here.goes set set) (idle_quiet k s cpu ram set (board_step board) (t + 1) here.later)
 
-  rests_at : (j : ℕ) (s : Setting) (cpu : Cpu) (ram : List ℕ) (set : Set) (board : Board) (t : ℕ) (counts : Counts) → SleepsThrough cpu board s.script t (suc j)
+  rests_at : (j : ℕ) (s : Setting) (cpu : Cpu) (ram : List ℕ) (set : Set) (board : Board) (t : ℕ) (counts : Counts)
+      → SleepsThrough cpu board s.script t (suc j)
       → Passes s (resting cpu ram set board (t + 1)) (resting cpu ram set (board_steps (suc j) board) (t + 1 + suc j)) counts counts
   rests_at j s cpu ram set board t counts sleeps = record {
     n = suc j;
@@ -82,7 +87,8 @@ module _ (halted : HaltedSteps) where
   }
 
   -- so many steps pass
-  pub rests_some : (k : ℕ) (s : Setting) (b : State) (counts : Counts) → 0 < b.step → (0 < k → b.cpu.held ≡ false) → (0 < k → SleepsThrough b.cpu b.board s.script (b.step - 1) k)
+  pub rests_some : (k : ℕ) (s : Setting) (b : State) (counts : Counts) → 0 < b.step → (0 < k → b.cpu.held ≡ false)
+      → (0 < k → SleepsThrough b.cpu b.board s.script (b.step - 1) k)
       → Passes s b (record b { board = board_steps k b.board; step = b.step + k }) counts counts
   rests_some zero s b counts begun held sleeps =
       let same : b.step ≡ b.step + 0 = omega arith in
@@ -91,6 +97,8 @@ module _ (halted : HaltedSteps) where
   rests_some (suc j) s b counts begun held sleeps =
       let step_is : b.step - 1 + 1 ≡ b.step = omega arith in
       let cpu_is : record b.cpu { held = false } ≡ b.cpu = ap (λ (h : Bool). record b.cpu { held = h }) (sym (held (omega arith))) in
-      subst (λ (c : Cpu). Passes s (record b { cpu = c }) (record b { cpu = c; board = board_steps (suc j) b.board; step = b.step + suc j }) counts counts) cpu_is
-      (subst (λ (n : ℕ). Passes s (record b { cpu = record b.cpu { held = false }; step = n }) (record b { cpu = record b.cpu { held = false }; board = board_steps (suc j) b.board; step = n + suc j }) counts counts) step_is
+      subst (λ (c : Cpu). Passes s (record b { cpu = c }) (record b { cpu = c; board = board_steps (suc j) b.board; step = b.step + suc j })
+      counts counts) cpu_is
+      (subst (λ (n : ℕ). Passes s (record b { cpu = record b.cpu { held = false }; step = n })
+      (record b { cpu = record b.cpu { held = false }; board = board_steps (suc j) b.board; step = n + suc j }) counts counts) step_is
       (rests_at j s b.cpu b.ram b.set b.board (b.step - 1) counts (sleeps (omega arith))))

@@ -26,8 +26,11 @@ more_first a b new before after le f =
     record { rises = r; enough = omega (arith, e, le) }
 
 -- the same slice, begun so
-pub slice_begun : (m : Setting) (bound : ℕ) (old new : State) (before after : Counts) (told tells : Option (List ℕ)) (first pages fills filled : ℕ) (notes_wanted : Bool) (notes_on : List Note → Type 0) (begins starts : Type 0) (result : Result Pause Failed) → first ≤ pages → (starts → begins)
-    → SliceAs m bound old new before after told tells first fills filled notes_wanted notes_on begins result → SliceAs m bound old new before after told tells pages fills filled notes_wanted notes_on starts result
+pub slice_begun : (m : Setting) (bound : ℕ) (old new : State) (before after : Counts) (told tells : Option (List ℕ))
+    (first pages fills filled : ℕ) (notes_wanted : Bool) (notes_on : List Note → Type 0) (begins starts : Type 0)
+    (result : Result Pause Failed) → first ≤ pages → (starts → begins)
+    → SliceAs m bound old new before after told tells first fills filled notes_wanted notes_on begins result
+    → SliceAs m bound old new before after told tells pages fills filled notes_wanted notes_on starts result
 slice_begun m bound old new before after told tells first pages fills filled notes_wanted notes_on begins starts result le from h = record {
   sets = h.sets;
   reports = h.reports;
@@ -40,7 +43,9 @@ slice_begun m bound old new before after told tells first pages fills filled not
   counts = h.counts;
   told_notes = h.told_notes;
   tells_notes = h.tells_notes;
-  each_filled = All-weaker (λ (set : Set). CountsFills first (len set) fills filled) (λ (set : Set). CountsFills pages (len set) fills filled) (λ set f. more_first first pages (len set) fills filled le f) (h.sets ++ h.end ∷ []) h.each_filled;
+  each_filled = All-weaker (λ (set : Set). CountsFills first (len set) fills filled)
+      (λ (set : Set). CountsFills pages (len set) fills filled) (λ set f. more_first first pages (len set) fills filled le f)
+      (h.sets ++ h.end ∷ []) h.each_filled;
   kept = λ s. h.kept (from s);
   left = λ s. h.left (from s);
 }
@@ -49,6 +54,7 @@ slice_begun m bound old new before after told tells first pages fills filled not
 pub anew_carries : {S : Type 0} (shows : shadows.Ghosts S) → CarryLaws → (m : Setting) (b : State) (s : S) (memory : List ℕ)
     → entries_of (shows.slots s memory) ≡ empty → IsAsNew shows s memory → IsCarried shows m [] b s memory
 anew_carries shows laws m b s memory none anew = record {
-  known = subst (IsKnown m [] b (sight shows s memory)) (sym none) (laws.start m b (sight shows s memory) (record { unnoted = anew.unnoted; unmarked = anew.unmarked; alone = anew.alone }));
+  known = subst (IsKnown m [] b (sight shows s memory)) (sym none)
+      (laws.start m b (sight shows s memory) (record { unnoted = anew.unnoted; unmarked = anew.unmarked; alone = anew.alone }));
   opened_to = anew.unopened _;
 }

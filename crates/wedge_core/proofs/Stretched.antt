@@ -54,27 +54,41 @@ front : (a b : Bool) → (a || b) ≡ false → (a || false) ≡ false
 front true b e = absurd (let f : true ≡ false = e in cc)
 front false b e = refl
 
-none_comes : (board : Board) (script : Events) (step n : ℕ) → comes_within board script step n ≡ false → comes_within board [] step n ≡ false
+none_comes : (board : Board) (script : Events) (step n : ℕ) → comes_within board script step n ≡ false
+    → comes_within board [] step n ≡ false
 unfolding comes_within
 none_comes board script step n e = front (edge_within n board.pit) (event_within step n script) e
 
 module _ {S : Type 0} (shows : shadows.Ghosts S) where
   -- the laws of shadows
   pub record Laws : Type 0 where
-    pub host : (s : S) (m : List ℕ) (n : ℕ) (side : Side) (page : ℕ) (write : Bool) → ∥ shows.stands s m ∥₁ → 4096 * n ≡ length m → page < 2 ^ 20 → reached m n (shows.directory s side) page write ≡ lent n (shows.slots s m page) side write
+    pub host : (s : S) (m : List ℕ) (n : ℕ) (side : Side) (page : ℕ) (write : Bool) → ∥ shows.stands s m ∥₁ → 4096 * n ≡ length m
+        → page < 2 ^ 20 → reached m n (shows.directory s side) page write ≡ lent n (shows.slots s m page) side write
     pub stays : (s : S) (m m' : List ℕ) → ∥ shows.stands s m ∥₁ → SameIn (shows.frames s m) m m' → ∥ shows.stands s m' ∥₁
-    pub same_frames : (s : S) (m m' : List ℕ) → ∥ shows.stands s m ∥₁ → SameIn (shows.frames s m) m m' → shows.frames s m' ≡ shows.frames s m
-    pub same_slots : (s : S) (m m' : List ℕ) → ∥ shows.stands s m ∥₁ → SameIn (shows.frames s m) m m' → SameSlots (shows.slots s m) (shows.slots s m')
-    pub same_entries : (s : S) (m m' : List ℕ) → ∥ shows.stands s m ∥₁ → SameIn (shows.frames s m) m m' → entries_of (shows.slots s m') ≡ entries_of (shows.slots s m)
-    pub entry_at : (s : S) (m : List ℕ) (page : ℕ) → page < 2 ^ 20 → get (entries_of (shows.slots s m)) page ≡ entry_in (shows.slots s m page)
-    pub above : (s : S) (p : Pool) (m m' : List ℕ) (limit : ℕ) → Owns p m (shows.frames s m) → limit ≤ 4096 * base_of p → drop limit m' ≡ drop limit m → length m' ≡ length m → SameIn (shows.frames s m) m m'
-    pub owned_above : (s : S) (p : Pool) (m m' : List ℕ) (limit : ℕ) → ∥ shows.stands s m ∥₁ → Owns p m (shows.frames s m) → limit ≤ 4096 * base_of p → drop limit m' ≡ drop limit m → length m' ≡ length m → Owns p m' (shows.frames s m')
+    pub same_frames : (s : S) (m m' : List ℕ) → ∥ shows.stands s m ∥₁ → SameIn (shows.frames s m) m m'
+        → shows.frames s m' ≡ shows.frames s m
+    pub same_slots : (s : S) (m m' : List ℕ) → ∥ shows.stands s m ∥₁ → SameIn (shows.frames s m) m m'
+        → SameSlots (shows.slots s m) (shows.slots s m')
+    pub same_entries : (s : S) (m m' : List ℕ) → ∥ shows.stands s m ∥₁ → SameIn (shows.frames s m) m m'
+        → entries_of (shows.slots s m') ≡ entries_of (shows.slots s m)
+    pub entry_at : (s : S) (m : List ℕ) (page : ℕ) → page < 2 ^ 20 → get (entries_of (shows.slots s m)) page ≡ entry_in
+        (shows.slots s m page)
+    pub above : (s : S) (p : Pool) (m m' : List ℕ) (limit : ℕ) → Owns p m (shows.frames s m) → limit ≤ 4096 * base_of p
+        → drop limit m' ≡ drop limit m → length m' ≡ length m → SameIn (shows.frames s m) m m'
+    pub owned_above : (s : S) (p : Pool) (m m' : List ℕ) (limit : ℕ) → ∥ shows.stands s m ∥₁ → Owns p m (shows.frames s m)
+        → limit ≤ 4096 * base_of p → drop limit m' ≡ drop limit m → length m' ≡ length m → Owns p m' (shows.frames s m')
 
   -- what follows from the run alone
-  module _ (g now : Running S) (view : View) (start : Standing) (k done : ℕ) (after_memory : List ℕ) (retired_then passed_then : ℕ) (r : Ran view k start g done now after_memory retired_then passed_then) where
+  module _ (g now : Running S) (view : View) (start : Standing) (k done : ℕ) (after_memory : List ℕ) (retired_then passed_then : ℕ)
+      (r : Ran view k start g done now after_memory retired_then passed_then) where
     -- the guest, had it done n instructions
     abbrev Then : ℕ → Type 0
-    Then n = (n ≡ 0 → now ≡ g) × (0 < n → now ≡ record g { cpu = record g.cpu { regs = landed r.exit r.regs; held = false }; board = board_steps n g.board; step = g.step + n })
+    Then n = (n ≡ 0 → now ≡ g)
+        × (0 < n → now ≡ record g {
+          cpu = record g.cpu { regs = landed r.exit r.regs; held = false };
+          board = board_steps n g.board;
+          step = g.step + n;
+        })
 
     pub frames_then : now.frames ≡ g.frames
     frames_then = by done (r.none, r.some)
@@ -97,7 +111,8 @@ module _ {S : Type 0} (shows : shadows.Ghosts S) where
         by zero t = let e = ap (λ (x : Running S). x.step) (t.0 refl) in omega (arith, e)
         by (suc n) t = ap (λ (x : Running S). x.step) (t.1 (omega arith))
 
-  module _ (laws : Laws) (image : Image) (f : ℕ) (g : Running S) (pool : Pool) (memory : List ℕ) (h : IsHeld shows (ground image f) g pool memory) where
+  module _ (laws : Laws) (image : Image) (f : ℕ) (g : Running S) (pool : Pool) (memory : List ℕ)
+      (h : IsHeld shows (ground image f) g pool memory) where
     abbrev kept : List ℕ → Set
     kept m = entries_of (shows.slots g.shadows m)
 
@@ -129,22 +144,26 @@ module _ {S : Type 0} (shows : shadows.Ghosts S) where
       within = subst (AreWithin f) (sym set_same) h.within
 
       has_tables_under : AreOpen image (wp_of g.cpu) (shows.slots g.shadows new)
-      has_tables_under = same_open image (wp_of g.cpu) (shows.slots g.shadows memory) (shows.slots g.shadows new) (laws.same_slots g.shadows memory new h.stand same_in) h.open_to
+      has_tables_under = same_open image (wp_of g.cpu) (shows.slots g.shadows memory) (shows.slots g.shadows new)
+          (laws.same_slots g.shadows memory new h.stand same_in) h.open_to
 
       lends : ViewsLend → (script : Events) (whole : Set) → IsPartOf (kept memory) whole
-          → Lends (wedge image script f) new (shows.directory g.shadows (side_of (g.cpu.cpl == 3))) (not (g.cpu.cpl == 3)) (wp_of g.cpu) whole
+          → Lends (wedge image script f) new (shows.directory g.shadows (side_of (g.cpu.cpl == 3)))
+          (not (g.cpu.cpl == 3)) (wp_of g.cpu) whole
       lends views script whole part =
           let m = wedge image script f in
           let side = side_of (g.cpu.cpl == 3) in
           let all : 4096 * (length new / 4096) ≡ length new = let w = whole_new in omega (arith, w) in
           let lent_here = views m new (shows.directory g.shadows side) side (wp_of g.cpu) (shows.slots g.shadows new) whole
           (λ page write lt. laws.host g.shadows new (length new / 4096) side page write stand all lt)
-          (λ page lt. laws.entry_at g.shadows new page lt) within has_tables_under (subst (λ (x : Set). IsPartOf x whole) (sym set_same) part) in
+          (λ page lt. laws.entry_at g.shadows new page lt) within has_tables_under
+          (subst (λ (x : Set). IsPartOf x whole) (sym set_same) part) in
           subst (λ (x : Bool). Lends m new (shows.directory g.shadows side) x (wp_of g.cpu) whole) (side_is g.cpu) lent_here
 
       -- the guest is held as before, at a later step
       held_on : IsHost (ground image f) new → (regs : Regs) (held : Bool) (board : Board) (step : ℕ) → g.step ≤ step
-          → IsHeld shows (ground image f) (record g { cpu = record g.cpu { regs = regs; held = held }; board = board; step = step }) pool new
+          → IsHeld shows (ground image f) (record g { cpu = record g.cpu { regs = regs; held = held }; board = board; step = step }) pool
+          new
       held_on host regs held board step later =
           let free = ap length (free_list-above pool memory new (4096 * f) limit same.beyond same.size h.owns.stands) in
           let many = ap length frames_same in
@@ -167,8 +186,10 @@ module _ {S : Type 0} (shows : shadows.Ghosts S) where
 
     -- ---- after a run of the host
 
-    module _ (views : ViewsLend) (sees : ViewsSee) (advances : Advances) (able : IsAble g.cpu) (may : MayRun g.cpu g.board image) (unheld : g.cpu.held ≡ false) (retired passed k done : ℕ) (now : Running S) (after_memory : List ℕ) (retired_then passed_then : ℕ)
-        (r : Ran (view_by (shows.directory g.shadows) g.cpu) k (standing g.cpu.regs memory retired passed) g done now after_memory retired_then passed_then)
+    module _ (views : ViewsLend) (sees : ViewsSee) (advances : Advances) (able : IsAble g.cpu) (may : MayRun g.cpu g.board image)
+        (unheld : g.cpu.held ≡ false) (retired passed k done : ℕ) (now : Running S) (after_memory : List ℕ) (retired_then passed_then : ℕ)
+        (r : Ran (view_by (shows.directory g.shadows) g.cpu) k (standing g.cpu.regs memory retired passed) g done now after_memory
+        retired_then passed_then)
       where
         abbrev view : View
         view = view_by (shows.directory g.shadows) g.cpu
@@ -182,7 +203,12 @@ module _ {S : Type 0} (shows : shadows.Ghosts S) where
         pub shadows_is : now.shadows ≡ g.shadows
         shadows_is = by done r.none r.some
           where
-            by : (n : ℕ) → (n ≡ 0 → now ≡ g) → (0 < n → now ≡ record g { cpu = record g.cpu { regs = landed r.exit r.regs; held = false }; board = board_steps n g.board; step = g.step + n }) → now.shadows ≡ g.shadows
+            by : (n : ℕ) → (n ≡ 0 → now ≡ g)
+                → (0 < n → now ≡ record g {
+                  cpu = record g.cpu { regs = landed r.exit r.regs; held = false };
+                  board = board_steps n g.board;
+                  step = g.step + n;
+                }) → now.shadows ≡ g.shadows
             by zero a b = ap (λ (x : Running S). x.shadows) (a refl)
             by (suc n) a b = ap (λ (x : Running S). x.shadows) (b (omega arith))
 
@@ -190,12 +216,26 @@ module _ {S : Type 0} (shows : shadows.Ghosts S) where
         pub rules_then : (now.cpu.cr3 ≡ g.cpu.cr3) × (pse_of now.cpu ≡ pse_of g.cpu) × (wp_of now.cpu ≡ wp_of g.cpu)
         rules_then = by done r.none r.some
           where
-            by : (n : ℕ) → (n ≡ 0 → now ≡ g) → (0 < n → now ≡ record g { cpu = record g.cpu { regs = landed r.exit r.regs; held = false }; board = board_steps n g.board; step = g.step + n })
+            by : (n : ℕ) → (n ≡ 0 → now ≡ g)
+                → (0 < n → now ≡ record g {
+                  cpu = record g.cpu { regs = landed r.exit r.regs; held = false };
+                  board = board_steps n g.board;
+                  step = g.step + n;
+                })
                 → (now.cpu.cr3 ≡ g.cpu.cr3) × (pse_of now.cpu ≡ pse_of g.cpu) × (wp_of now.cpu ≡ wp_of g.cpu)
-            by zero a b = let e = a refl in (ap (λ (x : Running S). x.cpu.cr3) e, ap (λ (x : Running S). pse_of x.cpu) e, ap (λ (x : Running S). wp_of x.cpu) e)
-            by (suc n) a b = let e = b (omega arith) in (ap (λ (x : Running S). x.cpu.cr3) e, ap (λ (x : Running S). pse_of x.cpu) e, ap (λ (x : Running S). wp_of x.cpu) e)
+            by zero a b = let e = a refl in (
+              ap (λ (x : Running S). x.cpu.cr3) e,
+              ap (λ (x : Running S). pse_of x.cpu) e,
+              ap (λ (x : Running S). wp_of x.cpu) e,
+            )
+            by (suc n) a b = let e = b (omega arith) in (
+              ap (λ (x : Running S). x.cpu.cr3) e,
+              ap (λ (x : Running S). pse_of x.cpu) e,
+              ap (λ (x : Running S). wp_of x.cpu) e,
+            )
 
-        module _ (script : Events) (quiet : 0 < k → comes_within g.board script g.step (k - 1) ≡ false) (board : Board) (is : given board script g.step ≡ g.board) (whole : Set) (part : IsPartOf (kept memory) whole) where
+        module _ (script : Events) (quiet : 0 < k → comes_within g.board script g.step (k - 1) ≡ false) (board : Board)
+            (is : given board script g.step ≡ g.board) (whole : Set) (part : IsPartOf (kept memory) whole) where
           abbrev m : Setting
           m = wedge image script f
 
@@ -204,7 +244,11 @@ module _ {S : Type 0} (shows : shadows.Ghosts S) where
 
           beside : Beside m view begun start
           beside = record {
-            stands = record { host = record { room = h.host.room; text = h.host.text }; ram = refl; sees = sees (shows.directory g.shadows) g.cpu able };
+            stands = record {
+              host = record { room = h.host.room; text = h.host.text };
+              ram = refl;
+              sees = sees (shows.directory g.shadows) g.cpu able;
+            };
             lends = λ new same. lends new (record { size = same.size; beyond = same.beyond }) views script whole part;
             regs = refl;
             awake = may.awake;
@@ -215,7 +259,8 @@ module _ {S : Type 0} (shows : shadows.Ghosts S) where
           advanced : Advanced m view begun k start r.exit end
           advanced =
               subst (λ (p : Exit × Standing). Advanced m view begun k start p.0 p.1) r.run
-              (advances m view k begun start (record { mode = refl; accepted = h.wedge.accepted; room = h.wedge.room }) beside (quiet_steps m begun g.board k is may.quiet quiet))
+              (advances m view k begun start (record { mode = refl; accepted = h.wedge.accepted; room = h.wedge.room }) beside
+              (quiet_steps m begun g.board k is may.quiet quiet))
 
           lands_there : Lands r.exit advanced.last end
           lands_there = lands m view r.exit advanced.last end advanced.ends
@@ -224,10 +269,12 @@ module _ {S : Type 0} (shows : shadows.Ghosts S) where
           count_is = let a = advanced.retired in let b = lands_there.retired in let c = r.count in omega (arith, a, b, c)
 
           behind_is : SameBehind (ground image f) memory after_memory
-          behind_is = subst (SameBehind (ground image f) memory) (sym lands_there.ram) (record { size = advanced.behind.size; beyond = advanced.behind.beyond })
+          behind_is = subst (SameBehind (ground image f) memory) (sym lands_there.ram)
+              (record { size = advanced.behind.size; beyond = advanced.behind.beyond })
 
           host_is : IsHost (ground image f) after_memory
-          host_is = subst (IsHost (ground image f)) (sym lands_there.ram) (record { room = advanced.beside.stands.host.room; text = advanced.beside.stands.host.text })
+          host_is = subst (IsHost (ground image f)) (sym lands_there.ram)
+              (record { room = advanced.beside.stands.host.room; text = advanced.beside.stands.host.text })
 
           ram_is : advanced.after.ram ≡ shown m after_memory
           ram_is = advanced.beside.stands.ram ∙ ap (shown m) (sym lands_there.ram)
@@ -248,28 +295,37 @@ module _ {S : Type 0} (shows : shadows.Ghosts S) where
             after_is =
                 let now_is = r.some some in
                 state_is advanced.after then_state
-                (advanced.cpu ∙ (ap (λ (x : Regs). record g.cpu { regs = x }) (sym lands_there.regs) ∙ (ap (λ (x : Bool). record g.cpu { regs = landed r.exit r.regs; held = x }) unheld ∙ sym (ap (λ (x : Running S). x.cpu) now_is))))
+                (advanced.cpu ∙ (ap (λ (x : Regs). record g.cpu { regs = x }) (sym lands_there.regs)
+                ∙ (ap (λ (x : Bool). record g.cpu { regs = landed r.exit r.regs; held = x }) unheld
+                ∙ sym (ap (λ (x : Running S). x.cpu) now_is))))
                 ram_is
                 advanced.set
-                (advanced.board ∙ (ap (board_after m begun) count_is ∙ (board_some m begun done some ∙ (ap (board_steps done) is ∙ sym (ap (λ (x : Running S). x.board) now_is)))))
+                (advanced.board ∙ (ap (board_after m begun) count_is
+                ∙ (board_some m begun done some ∙ (ap (board_steps done) is ∙ sym (ap (λ (x : Running S). x.board) now_is)))))
                 (advanced.count ∙ (ap (λ (n : ℕ). g.step + n) count_is ∙ sym (ap (λ (x : Running S). x.step) now_is)))
 
-            pub passes_on : whole ≡ kept memory → Passes m begun (state_of shows m now after_memory) (record { retired = retired; passed = passed }) (record { retired = retired_then; passed = passed_then })
+            pub passes_on : whole ≡ kept memory → Passes m begun (state_of shows m now after_memory)
+                (record { retired = retired; passed = passed }) (record { retired = retired_then; passed = passed_then })
             passes_on exact = record {
               n = advanced.n;
               reports = advanced.reports;
-              steps = subst (Steps m begun (replicate advanced.n whole) advanced.reports) (after_is ∙ ap (with_set (state_of shows m now after_memory)) (exact ∙ sym now_set)) advanced.steps;
+              steps = subst (Steps m begun (replicate advanced.n whole) advanced.reports)
+                  (after_is ∙ ap (with_set (state_of shows m now after_memory)) (exact ∙ sym now_set)) advanced.steps;
               sets = advanced.sets;
               quiet = advanced.quiet;
               silent = advanced.unseen;
-              counts = record { retired = (let a = r.count in let b = count_is in let c = advanced.direct in omega (arith, a, b, c)); passed = lands_there.passed ∙ advanced.passed };
+              counts = record {
+                retired = (let a = r.count in let b = count_is in let c = advanced.direct in omega (arith, a, b, c));
+                passed = lands_there.passed ∙ advanced.passed;
+              };
             }
 
           -- none was done
 
           module _ (none : done ≡ 0) where
             nothing : (advanced.reports ≡ []) × (advanced.after ≡ begun)
-            nothing = steps_none m begun advanced.after (replicate advanced.n whole) advanced.reports (no_sets advanced.n whole (count_is ∙ none)) advanced.steps
+            nothing = steps_none m begun advanced.after (replicate advanced.n whole) advanced.reports
+                (no_sets advanced.n whole (count_is ∙ none)) advanced.steps
 
             shown_same : shown m after_memory ≡ shown m memory
             shown_same = sym ram_is ∙ ap (λ (x : State). x.ram) nothing.1
@@ -277,10 +333,12 @@ module _ {S : Type 0} (shows : shadows.Ghosts S) where
             state_same : state_of shows m now after_memory ≡ state_of shows m g memory
             state_same =
                 let now_is = r.none none in
-                state_is (state_of shows m now after_memory) (state_of shows m g memory) (ap (λ (x : Running S). x.cpu) now_is) shown_same now_set (ap (λ (x : Running S). x.board) now_is) (ap (λ (x : Running S). x.step) now_is)
+                state_is (state_of shows m now after_memory) (state_of shows m g memory) (ap (λ (x : Running S). x.cpu) now_is) shown_same
+                now_set (ap (λ (x : Running S). x.board) now_is) (ap (λ (x : Running S). x.step) now_is)
 
             passed_same : passed_then ≡ passed
-            passed_same = lands_there.passed ∙ (advanced.passed ∙ ap (Rattle.machine_model.specs.Counts.passed_digest image.sites passed) nothing.0)
+            passed_same =
+                lands_there.passed ∙ (advanced.passed ∙ ap (Rattle.machine_model.specs.Counts.passed_digest image.sites passed) nothing.0)
 
         -- what events make no difference to
 
@@ -301,15 +359,19 @@ module _ {S : Type 0} (shows : shadows.Ghosts S) where
           stays_on none =
               let e = state_same [] calm g.board (none_given g.board g.step) (kept memory) itself none in
               state_is (state_of shows (wedge image script f) now after_memory) (state_of shows (wedge image script f) g memory)
-              (ap (λ (x : State). x.cpu) e) (any_script image script f after_memory ∙ (ap (λ (x : State). x.ram) e ∙ sym (any_script image script f memory)))
+              (ap (λ (x : State). x.cpu) e)
+              (any_script image script f after_memory ∙ (ap (λ (x : State). x.ram) e ∙ sym (any_script image script f memory)))
               (ap (λ (x : State). x.set) e) (ap (λ (x : State). x.board) e) (ap (λ (x : State). x.step) e)
 
           -- no frame to which the view lets no write pass, whatever the guest's frames hold, has changed
-          pub untouched_then : (at : ℕ) → ((new : List ℕ) → SameBehind (ground image f) memory new → IsUnlent new (shows.directory g.shadows (side_of (g.cpu.cpl == 3))) at)
+          pub untouched_then : (at : ℕ)
+              → ((new : List ℕ) → SameBehind (ground image f) memory new → IsUnlent new
+              (shows.directory g.shadows (side_of (g.cpu.cpl == 3))) at)
               → frame (shown (ground image f) after_memory) at ≡ frame (shown (ground image f) memory) at
           untouched_then at unlent =
               let a = advanced [] calm g.board (none_given g.board g.step) (kept memory) itself in
-              ap (λ (l : List ℕ). frame l at) (sym (ram_is [] calm g.board (none_given g.board g.step) (kept memory) itself)) ∙ a.guest_untouched at (λ new same. unlent new (record { size = same.size; beyond = same.beyond }))
+              ap (λ (l : List ℕ). frame l at) (sym (ram_is [] calm g.board (none_given g.board g.step) (kept memory) itself))
+              ∙ a.guest_untouched at (λ new same. unlent new (record { size = same.size; beyond = same.beyond }))
 
           pub passed_on : done ≡ 0 → passed_then ≡ passed
           passed_on none = passed_same [] calm g.board (none_given g.board g.step) (kept memory) itself none
@@ -320,14 +382,23 @@ module _ {S : Type 0} (shows : shadows.Ghosts S) where
           pub held_then : IsHeld shows (ground image f) now pool after_memory
           held_then = by done r.none r.some
             where
-              by : (n : ℕ) → (n ≡ 0 → now ≡ g) → (0 < n → now ≡ record g { cpu = record g.cpu { regs = landed r.exit r.regs; held = false }; board = board_steps n g.board; step = g.step + n }) → Held now
-              by zero a b = subst Held (sym (a refl)) (held_on after_memory same_there host_there g.cpu.regs g.cpu.held g.board g.step (omega arith))
-              by (suc n) a b = subst Held (sym (b (omega arith))) (held_on after_memory same_there host_there (landed r.exit r.regs) false (board_steps (suc n) g.board) (g.step + suc n) (omega arith))
+              by : (n : ℕ) → (n ≡ 0 → now ≡ g)
+                  → (0 < n → now ≡ record g {
+                    cpu = record g.cpu { regs = landed r.exit r.regs; held = false };
+                    board = board_steps n g.board;
+                    step = g.step + n;
+                  }) → Held now
+              by zero a b =
+                  subst Held (sym (a refl)) (held_on after_memory same_there host_there g.cpu.regs g.cpu.held g.board g.step (omega arith))
+              by (suc n) a b = subst Held (sym (b (omega arith)))
+                  (held_on after_memory same_there host_there (landed r.exit r.regs) false (board_steps (suc n) g.board)
+                  (g.step + suc n) (omega arith))
 
           pub keeps_then : Keeps pool pool memory after_memory (shows.frames g.shadows memory) (shows.frames now.shadows after_memory)
           keeps_then =
               let same = same_there in
-              keeps_above pool memory after_memory (4096 * f) (shows.frames g.shadows memory) (shows.frames now.shadows after_memory) h.owns.stands (limit after_memory same) same.beyond same.size
+              keeps_above pool memory after_memory (4096 * f) (shows.frames g.shadows memory) (shows.frames now.shadows after_memory)
+              h.owns.stands (limit after_memory same) same.beyond same.size
               (ap (λ (s : S). shows.frames s after_memory) shadows_is ∙ frames_same after_memory same)
 
           -- a user's flags stay open
@@ -341,6 +412,12 @@ module _ {S : Type 0} (shows : shadows.Ghosts S) where
           pub able_then : IsAble now.cpu
           able_then = by done r.none r.some
             where
-              by : (n : ℕ) → (n ≡ 0 → now ≡ g) → (0 < n → now ≡ record g { cpu = record g.cpu { regs = landed r.exit r.regs; held = false }; board = board_steps n g.board; step = g.step + n }) → IsAble now.cpu
+              by : (n : ℕ) → (n ≡ 0 → now ≡ g)
+                  → (0 < n → now ≡ record g {
+                    cpu = record g.cpu { regs = landed r.exit r.regs; held = false };
+                    board = board_steps n g.board;
+                    step = g.step + n;
+                  }) → IsAble now.cpu
               by zero a b = subst (λ (x : Running S). IsAble x.cpu) (sym (a refl)) able
-              by (suc n) a b = subst (λ (x : Running S). IsAble x.cpu) (sym (b (omega arith))) (record { level = able.level; code = able.code; stack = able.stack; users = open_then })
+              by (suc n) a b = subst (λ (x : Running S). IsAble x.cpu) (sym (b (omega arith)))
+                  (record { level = able.level; code = able.code; stack = able.stack; users = open_then })

@@ -19,7 +19,8 @@ next_below old new index l gone page lt below =
     ]
 
 -- and of more, where nothing is kept of those
-pub none_between : (slots : ℕ → Option Slot) (index next : ℕ) → ((page : ℕ) → page < 2 ^ 20 → 1024 * index ≤ page → page < 1024 * next → slots page ≡ None)
+pub none_between : (slots : ℕ → Option Slot) (index next : ℕ)
+    → ((page : ℕ) → page < 2 ^ 20 → 1024 * index ≤ page → page < 1024 * next → slots page ≡ None)
     → GoneBelow index slots → GoneBelow next slots
 none_between slots index next none gone page lt below =
     elim (cases_lt (page / 1024) index) [
@@ -27,5 +28,6 @@ none_between slots index next none gone page lt below =
       | inr h ↦ none page lt (omega (arith, h)) (omega (arith, below))
     ]
 
-pub all_below : (slots : ℕ → Option Slot) (index : ℕ) → 1024 ≤ index → GoneBelow index slots → (page : ℕ) → page < 2 ^ 20 → slots page ≡ None
+pub all_below : (slots : ℕ → Option Slot) (index : ℕ) → 1024 ≤ index → GoneBelow index slots → (page : ℕ)
+    → page < 2 ^ 20 → slots page ≡ None
 all_below slots index done gone page lt = gone page lt (omega (arith, done, lt))

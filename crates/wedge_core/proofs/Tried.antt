@@ -34,7 +34,8 @@ use Rattle.wedge_step.proofs.Opening.{same_open}
 module _ {S : Type 0} (shows : shadows.Ghosts S) where
   -- the state before it, in the words of a run with a script
   pub record Begun (image : Image) (r : Running S) (ram0 : List ℕ) (s0 : StepState) (script : Events) : Type 0 where
-    pub start : space_at (λ x. entries_of (shows.slots r.shadows x)) ram0 s0 ≡ space_at_start (wedge_mode image) r.frames r.cpu (shown (wedge image script r.frames) ram0) (entries_of (shows.slots r.shadows ram0))
+    pub start : space_at (λ x. entries_of (shows.slots r.shadows x)) ram0 s0 ≡ space_at_start (wedge_mode image) r.frames r.cpu
+        (shown (wedge image script r.frames) ram0) (entries_of (shows.slots r.shadows ram0))
     pub wedge_is : IsWedge (wedge image script r.frames)
     pub bytes : AreBytes (shown (wedge image script r.frames) ram0)
     pub room : 4096 * r.frames ≤ length (shown (wedge image script r.frames) ram0)
@@ -50,22 +51,33 @@ module _ {S : Type 0} (shows : shadows.Ghosts S) where
     pub wp1 : s1.control.wp ≡ wp_of r.cpu
     pub open1 : AreOpen image s1.control.wp (shows.slots r.shadows ram1)
     pub within1 : AreWithin r.frames (changed (entries_of (shows.slots r.shadows ram1)) s1.changes)
-    pub ram1_is : (script : Events) → (space_at (λ x. entries_of (shows.slots r.shadows x)) ram1 s1).ram ≡ shown (wedge image script r.frames) ram1
+    pub ram1_is : (script : Events) → (space_at (λ x. entries_of (shows.slots r.shadows x)) ram1 s1).ram ≡ shown
+        (wedge image script r.frames) ram1
     pub begun : (script : Events) → Begun image r ram0 s0 script
 
-  module _ (above : (s : S) (p : Pool) (m m' : List ℕ) (limit : ℕ) → Owns p m (shows.frames s m) → limit ≤ 4096 * base_of p → drop limit m' ≡ drop limit m → length m' ≡ length m → SameIn (shows.frames s m) m m')
-      (same_frames : (s : S) (m m' : List ℕ) → ∥ shows.stands s m ∥₁ → SameIn (shows.frames s m) m m' → shows.frames s m' ≡ shows.frames s m)
-      (same_slots : (s : S) (m m' : List ℕ) → ∥ shows.stands s m ∥₁ → SameIn (shows.frames s m) m m' → SameSlots (shows.slots s m) (shows.slots s m'))
-      (same_entries : (s : S) (m m' : List ℕ) → ∥ shows.stands s m ∥₁ → SameIn (shows.frames s m) m m' → entries_of (shows.slots s m') ≡ entries_of (shows.slots s m))
-      (same_other_roots : (s : S) (m m' : List ℕ) → ∥ shows.stands s m ∥₁ → SameIn (shows.frames s m) m m' → AreSame (shows.other_roots s m) (shows.other_roots s m'))
-      (image : Image) (r : Running S) (pool : Pool) (ram0 ram1 : List ℕ) (s0 s1 : StepState) (first count : ℕ) (bytes : List ℕ) (guard : Guard) (guard0 : s0.guard ≡ guard)
+  module _ (above : (s : S) (p : Pool) (m m' : List ℕ) (limit : ℕ) → Owns p m (shows.frames s m) → limit ≤ 4096 * base_of p → drop limit m'
+      ≡ drop limit m → length m' ≡ length m → SameIn (shows.frames s m) m m')
+      (same_frames : (s : S) (m m' : List ℕ) → ∥ shows.stands s m ∥₁ → SameIn (shows.frames s m) m m' → shows.frames s
+      m' ≡ shows.frames s m)
+      (same_slots : (s : S) (m m' : List ℕ) → ∥ shows.stands s m ∥₁ → SameIn (shows.frames s m) m m' → SameSlots
+      (shows.slots s m) (shows.slots s m'))
+      (same_entries : (s : S) (m m' : List ℕ) → ∥ shows.stands s m ∥₁ → SameIn (shows.frames s m) m m' → entries_of (shows.slots s m')
+      ≡ entries_of (shows.slots s m))
+      (same_other_roots : (s : S) (m m' : List ℕ) → ∥ shows.stands s m ∥₁ → SameIn (shows.frames s m) m m' → AreSame (shows.other_roots s m)
+      (shows.other_roots s m'))
+      (image : Image) (r : Running S) (pool : Pool) (ram0 ram1 : List ℕ) (s0 s1 : StepState) (first count : ℕ) (bytes : List ℕ)
+      (guard : Guard) (guard0 : s0.guard ≡ guard)
       (first_is : first ≡ 256) (count_is : count ≡ text_pages image) (bytes_is : bytes ≡ image.text)
-      (hides : (m : List ℕ) → laying.hidden guard r.frames m ≡ laying.beyond first count r.frames m) (lays : (m : List ℕ) → laying.shown_by guard.text.now r.frames m ≡ laying.laid bytes first r.frames m)
+      (hides : (m : List ℕ) → laying.hidden guard r.frames m ≡ laying.beyond first count r.frames m)
+      (lays : (m : List ℕ) → laying.shown_by guard.text.now r.frames m ≡ laying.laid bytes first r.frames m)
       (held : IsHeld shows (ground image r.frames) r pool ram0)
-      (space0 : space_at (λ x. entries_of (shows.slots r.shadows x)) ram0 s0 ≡ space_at_start (Wedge first count no_own) r.frames r.cpu (laying.laid bytes first r.frames ram0) (entries_of (shows.slots r.shadows ram0)))
+      (space0 : space_at (λ x. entries_of (shows.slots r.shadows x)) ram0 s0 ≡ space_at_start (Wedge first count no_own) r.frames r.cpu
+      (laying.laid bytes first r.frames ram0) (entries_of (shows.slots r.shadows ram0)))
       (frames0 : s0.control.frames ≡ r.frames) (control : s1.control ≡ s0.control) (text : s1.guard.text ≡ s0.guard.text)
-      (hidden : laying.hidden s0.guard s0.control.frames ram1 ≡ laying.hidden s0.guard s0.control.frames ram0) (fits : 4096 * s1.control.frames ≤ length ram1)
-      (within : AreWithin s1.control.frames (changed (entries_of (shows.slots r.shadows ram1)) s1.changes)) (are_bytes : AreBytes (shown (ground image r.frames) ram0)) (long : length (shown (ground image r.frames) ram0) ≡ 4096 * r.frames)
+      (hidden : laying.hidden s0.guard s0.control.frames ram1 ≡ laying.hidden s0.guard s0.control.frames ram0)
+      (fits : 4096 * s1.control.frames ≤ length ram1)
+      (within : AreWithin s1.control.frames (changed (entries_of (shows.slots r.shadows ram1)) s1.changes))
+      (are_bytes : AreBytes (shown (ground image r.frames) ram0)) (long : length (shown (ground image r.frames) ram0) ≡ 4096 * r.frames)
       (runs : may_run r.cpu r.board image ≡ true) (small : r.cpu.regs.eip < 2 ^ 32)
     where
       frames_same : s1.control.frames ≡ r.frames
@@ -74,7 +86,8 @@ module _ {S : Type 0} (shows : shadows.Ghosts S) where
       hid : laying.beyond first count r.frames ram1 ≡ laying.beyond first count r.frames ram0
       hid =
           sym (hides ram1)
-          ∙ (subst (λ (x : Guard). laying.hidden x r.frames ram1 ≡ laying.hidden x r.frames ram0) guard0 (subst (λ (k : ℕ). laying.hidden s0.guard k ram1 ≡ laying.hidden s0.guard k ram0) frames0 hidden)
+          ∙ (subst (λ (x : Guard). laying.hidden x r.frames ram1 ≡ laying.hidden x r.frames ram0) guard0
+          (subst (λ (k : ℕ). laying.hidden s0.guard k ram1 ≡ laying.hidden s0.guard k ram0) frames0 hidden)
           ∙ hides ram0)
 
       fits1 : 4096 * r.frames ≤ length ram1
@@ -94,7 +107,8 @@ module _ {S : Type 0} (shows : shadows.Ghosts S) where
           let as_long = ap length same in
           record {
             start = starts m b (Wedge first count no_own) (space_at (λ x. entries_of (shows.slots r.shadows x)) ram0 s0)
-                (λ i. Wedge (sym first_is i) (sym count_is i) no_own) (laying.laid bytes first r.frames ram0) (shown_is m bytes first ram0 bytes_is first_is) space0;
+                (λ i. Wedge (sym first_is i) (sym count_is i) no_own) (laying.laid bytes first r.frames ram0)
+                (shown_is m bytes first ram0 bytes_is first_is) space0;
             wedge_is = record { mode = held.wedge.mode; accepted = held.wedge.accepted; room = held.wedge.room };
             bytes = subst AreBytes (sym same) are_bytes;
             room = omega (arith, as_long, long);
@@ -110,9 +124,11 @@ module _ {S : Type 0} (shows : shadows.Ghosts S) where
         counted1 = held.counted ∙ ap length (sym left.frames_same);
         few1 = few_after shows image r pool ram0 ram1 held left;
         wp1 = wp_same;
-        open1 = subst (λ (x : Bool). AreOpen image x (shows.slots r.shadows ram1)) (sym wp_same) (same_open image (wp_of r.cpu) (shows.slots r.shadows ram0) (shows.slots r.shadows ram1) left.slots_same held.open_to);
+        open1 = subst (λ (x : Bool). AreOpen image x (shows.slots r.shadows ram1)) (sym wp_same)
+            (same_open image (wp_of r.cpu) (shows.slots r.shadows ram0) (shows.slots r.shadows ram1) left.slots_same held.open_to);
         within1 = subst (λ (k : ℕ). AreWithin k (changed (entries_of (shows.slots r.shadows ram1)) s1.changes)) frames_same within;
         ram1_is = λ script.
-            (λ i. laying.shown_by ((text ∙ ap (λ (x : Guard). x.text) guard0) i).now (frames_same i) ram1) ∙ (lays ram1 ∙ shown_is (wedge image script r.frames) bytes first ram1 bytes_is first_is);
+            (λ i. laying.shown_by ((text ∙ ap (λ (x : Guard). x.text) guard0) i).now (frames_same i) ram1)
+            ∙ (lays ram1 ∙ shown_is (wedge image script r.frames) bytes first ram1 bytes_is first_is);
         begun = begins;
       }

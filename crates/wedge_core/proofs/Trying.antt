@@ -25,12 +25,15 @@ use Rattle.wedge_core.proofs.Uncounted.{refused_none, others_uncounted}
 
 module _ (m : Setting) (b : State) (s : Space) where
   -- the fetch is refused
-  refused_next : (r : Refusal) (u : Space) → fetched (b.cpu.cpl == 3) b.cpu.regs.eip s ≡ Err (r, u) → fetches_next m b s ≡ after_refusal m b r u
+  refused_next : (r : Refusal) (u : Space) → fetched (b.cpu.cpl == 3) b.cpu.regs.eip s ≡ Err (r, u)
+      → fetches_next m b s ≡ after_refusal m b r u
   refused_next r u e = ap (after_fetch m b) e
 
-  pub tried_refused : (r : Refusal) (u : Space) (w : Result Worked Stop) (board : Board) (t : Space) → fetched (b.cpu.cpl == 3) b.cpu.regs.eip s ≡ Err (r, u)
+  pub tried_refused : (r : Refusal) (u : Space) (w : Result Worked Stop) (board : Board) (t : Space)
+      → fetched (b.cpu.cpl == 3) b.cpu.regs.eip s ≡ Err (r, u)
       → ComesTo (after_refusal m b r u) b w board t → TriesAs m b s (gone w) board t
-  tried_refused r u (Ok worked) board t e came = (refused_next r u e ∙ came, λ others sites. ap (direct_in sites) (refused_none m b r u worked board t came))
+  tried_refused r u (Ok worked) board t e came =
+      (refused_next r u e ∙ came, λ others sites. ap (direct_in sites) (refused_none m b r u worked board t came))
   tried_refused r u (Err stop) board t e came = refused_next r u e ∙ came
 
   -- an instruction is fetched
@@ -38,20 +41,26 @@ module _ (m : Setting) (b : State) (s : Space) where
     next_is : fetches_next m b s ≡ by_decoded m b (begins.Insn insn len) u
     next_is = ap (after_fetch m b) e
 
-    pub tried_prepared : (r : Result (Option Worked) Stop) (t : Space) → is_native (b.cpu.cpl == 3) insn.op ≡ true → PreparesAs m b insn len u r t → TriesAs m b s r b.board t
+    pub tried_prepared : (r : Result (Option Worked) Stop) (t : Space) → is_native (b.cpu.cpl == 3) insn.op ≡ true
+        → PreparesAs m b insn len u r t → TriesAs m b s r b.board t
     tried_prepared (Ok (Some worked)) t native p = (next_is ∙ p.0, λ others sites. ap (direct_in sites) p.1)
     tried_prepared (Ok None) t native p = (refl, prepared_is b s u t insn len e native p)
     tried_prepared (Err stop) t native p = next_is ∙ p
 
-    pub tried_other : (w : Result Worked Stop) (board : Board) (t : Space) → is_native (b.cpu.cpl == 3) insn.op ≡ false → ComesTo (by_decoded m b (begins.Insn insn len) u) b w board t
+    pub tried_other : (w : Result Worked Stop) (board : Board) (t : Space) → is_native (b.cpu.cpl == 3) insn.op ≡ false
+        → ComesTo (by_decoded m b (begins.Insn insn len) u) b w board t
         → TriesAs m b s (gone w) board t
-    tried_other (Ok worked) board t native came = (next_is ∙ came, λ others sites. others_uncounted m b insn len u native (others insn len u e native) worked board t came sites)
+    tried_other (Ok worked) board t native came =
+        (next_is ∙ came, λ others sites. others_uncounted m b insn len u native (others insn len u e native) worked board t came sites)
     tried_other (Err stop) board t native came = next_is ∙ came
 
 -- what is refused after the fetch, where the host would have done it
-pub prepares_refused : (m : Setting) (b : State) (insn : Insn) (len : ℕ) (s : Space) → IsAble b.cpu → is_native (b.cpu.cpl == 3) insn.op ≡ true → ((found : List ℕ) × Spells found insn)
-    → (r : Refusal) (u : Space) (w : Result Worked Stop) (t : Space) → prepared insn len b.cpu s ≡ Err (r, u) → ComesTo (after_refusal m b r u) b w b.board t → PreparesAs m b insn len s (gone w) t
-prepares_refused m b insn len s able native spelled r u (Ok worked) t e came = (refused_as m b insn len s able native spelled r u e ∙ came, refused_none m b r u worked b.board t came)
+pub prepares_refused : (m : Setting) (b : State) (insn : Insn) (len : ℕ) (s : Space) → IsAble b.cpu
+    → is_native (b.cpu.cpl == 3) insn.op ≡ true → ((found : List ℕ) × Spells found insn)
+    → (r : Refusal) (u : Space) (w : Result Worked Stop) (t : Space) → prepared insn len b.cpu s ≡ Err (r, u)
+    → ComesTo (after_refusal m b r u) b w b.board t → PreparesAs m b insn len s (gone w) t
+prepares_refused m b insn len s able native spelled r u (Ok worked) t e came =
+    (refused_as m b insn len s able native spelled r u e ∙ came, refused_none m b r u worked b.board t came)
 prepares_refused m b insn len s able native spelled r u (Err stop) t e came = refused_as m b insn len s able native spelled r u e ∙ came
 
 -- ---- what holds of a step that went, of which the host does nothing
@@ -65,7 +74,9 @@ of_gone fact (Ok worked) h = h
 of_gone fact (Err stop) h = tt
 
 -- what is hidden stays so over both parts of a step
-pub hidden_on : (first last : Option Text) (frames count : ℕ) (old mid new : List ℕ) → last ≡ first → count ≡ frames → hidden_by first frames mid ≡ hidden_by first frames old → hidden_by last count new ≡ hidden_by last count mid
+pub hidden_on : (first last : Option Text) (frames count : ℕ) (old mid new : List ℕ) → last ≡ first → count ≡ frames
+    → hidden_by first frames mid ≡ hidden_by first frames old → hidden_by last count new ≡ hidden_by last count mid
     → hidden_by first frames new ≡ hidden_by first frames old
 hidden_on first last frames count old mid new text same before after =
-    subst (λ (t : Option Text). hidden_by t frames new ≡ hidden_by t frames mid) text (subst (λ (n : ℕ). hidden_by last n new ≡ hidden_by last n mid) same after) ∙ before
+    subst (λ (t : Option Text). hidden_by t frames new ≡ hidden_by t frames mid) text
+    (subst (λ (n : ℕ). hidden_by last n new ≡ hidden_by last n mid) same after) ∙ before

@@ -81,7 +81,8 @@ module _ (cpu : Cpu) (user : cpu.cpl ≡ 3) (open_flags : is_open cpu ≡ true) 
   above = ap (λ (x : ℕ). x == 0) user
 
   not_within : is_within cpu ≡ false
-  not_within = ap (λ (x : ℕ). nat_le x most) user ∙ ap (λ (x : ℕ). nat_le 3 x) (eqb-true most 0 (and_parts (has cpu.regs.flags.bits 512) (most == 0) open_flags).1)
+  not_within = ap (λ (x : ℕ). nat_le x most) user
+      ∙ ap (λ (x : ℕ). nat_le 3 x) (eqb-true most 0 (and_parts (has cpu.regs.flags.bits 512) (most == 0) open_flags).1)
 
   barred_read : (a b : Operand) (len : ℕ) (s : Space) → DoneIf ⊥ (read_control a b len cpu s)
   unfolding read_control
@@ -93,7 +94,8 @@ module _ (cpu : Cpu) (user : cpu.cpl ≡ 3) (open_flags : is_open cpu ≡ true) 
   barred_write (operands.Control number) (operands.Register k) len s = first_refused _ (cpu.cpl == 0) _ s above
   barred_write a b len s = tt
 
-  barred : (o : Op) (insn : Insn) (len : ℕ) (s : Space) → is_barred o ≡ true → DoneIf ⊥ (cond (is_plain o) (done_plainly (executed insn len cpu s)) (row o insn len cpu s))
+  barred : (o : Op) (insn : Insn) (len : ℕ) (s : Space) → is_barred o ≡ true
+      → DoneIf ⊥ (cond (is_plain o) (done_plainly (executed insn len cpu s)) (row o insn len cpu s))
   unfolding clear_interrupts set_interrupts halt load_gdt load_idt load_tr drop_page port_in port_out
   barred op.Cli insn len s e = first_refused _ (is_within cpu) _ s not_within
   barred op.Sti insn len s e = first_refused _ (is_within cpu) _ s not_within
@@ -111,7 +113,8 @@ module _ (cpu : Cpu) (user : cpu.cpl ≡ 3) (open_flags : is_open cpu ≡ true) 
 -- ---- the outcome of a step
 
 module _ (m : Setting) (b : State) (P : Option Completed → Type 0) (none : P None) where
-  of_entered : (whats : List What) (c : Option Completed) (cpu : Cpu) (board : Board) (s : Space) → P c → CompletesAs P (entered m whats c b cpu board s)
+  of_entered : (whats : List What) (c : Option Completed) (cpu : Cpu) (board : Board) (s : Space) → P c
+      → CompletesAs P (entered m whats c b cpu board s)
   of_entered whats c cpu board s p = chosen P (stands_well m cpu) (concluded whats c b cpu board s) (Halts stops.NotAStart) p tt
 
   of_delivery : (o : Outcome NotDelivered Cpu) → CompletesAs P (after_delivery m [] b b.board o)
@@ -131,23 +134,27 @@ module _ (m : Setting) (b : State) (P : Option Completed → Type 0) (none : P N
   of_software c vector (Err (not_delivered.Privilege, s)) p = of_raised b.cpu 13 (8 * vector + 2) s
   of_software c vector (Err (not_delivered.Stop stop, s)) p = tt
 
-  of_read : (c : Completed) (cpu : Cpu) (port : ℕ) (wide : Bool) (s : Space) (x : PortRead × Board) → P (Some c) → CompletesAs P (after_read b c cpu port wide s x)
+  of_read : (c : Completed) (cpu : Cpu) (port : ℕ) (wide : Bool) (s : Space) (x : PortRead × Board) → P (Some c)
+      → CompletesAs P (after_read b c cpu port wide s x)
   of_read c cpu port wide s (read.Stop, board) p = tt
   of_read c cpu port wide s (read.Value value, board) p = p
 
-  of_write : (c : Completed) (cpu : Cpu) (item : What) (s : Space) (x : Did × Board) → P (Some c) → CompletesAs P (after_write b c cpu item s x)
+  of_write : (c : Completed) (cpu : Cpu) (item : What) (s : Space) (x : Did × Board) → P (Some c)
+      → CompletesAs P (after_write b c cpu item s x)
   of_write c cpu item s (did.Stop, board) p = tt
   of_write c cpu item s (did.Done, board) p = p
   of_write c cpu item s (did.Sent value, board) p = p
 
   of_effect : (c : Completed) (e : SysEffect) (cpu : Cpu) (s : Space) → P (Some c) → CompletesAs P (after_effect m b c e cpu s)
-  of_effect c effects.Next cpu s p = chosen P (may_leave m.mode b.cpu cpu) (concluded [] (Some c) b cpu b.board s) (Halts stops.UserFlags) p tt
+  of_effect c effects.Next cpu s p =
+      chosen P (may_leave m.mode b.cpu cpu) (concluded [] (Some c) b cpu b.board s) (Halts stops.UserFlags) p tt
   of_effect c effects.Halted cpu s p = p
   of_effect c (effects.DropPage page) cpu s p = p
   of_effect c (effects.DropDir index) cpu s p = p
   of_effect c effects.DropAll cpu s p = p
   of_effect c (effects.PortIn port wide) cpu s p = of_read c cpu port wide s (port_read b.board port wide) p
-  of_effect c (effects.PortOut port wide value) cpu s p = of_write c cpu (out_item port wide value) s (port_written b.board port wide value) p
+  of_effect c (effects.PortOut port wide value) cpu s p =
+      of_write c cpu (out_item port wide value) s (port_written b.board port wide value) p
   of_effect c (effects.Raise vector code) cpu s p = of_raised cpu vector code s
   of_effect c (effects.Stop stop) cpu s p = tt
 
@@ -161,8 +168,10 @@ module _ (m : Setting) (b : State) (P : Option Completed → Type 0) (none : P N
   of_instruction c (Err refused) p = of_told c refused.0 refused.1
 
 -- a refusal completes nothing
-pub refused_none : (m : Setting) (b : State) (r : Refusal) (s : Space) (worked : Worked) (board : Board) (t : Space) → after_refusal m b r s ≡ went_as b worked board t → completed_by worked.completed ≡ None
-refused_none m b r s worked board t e = subst (CompletesAs (λ (c : Option Completed). c ≡ None)) e (of_refusal m b (λ (c : Option Completed). c ≡ None) refl r s)
+pub refused_none : (m : Setting) (b : State) (r : Refusal) (s : Space) (worked : Worked) (board : Board) (t : Space)
+    → after_refusal m b r s ≡ went_as b worked board t → completed_by worked.completed ≡ None
+refused_none m b r s worked board t e =
+    subst (CompletesAs (λ (c : Option Completed). c ≡ None)) e (of_refusal m b (λ (c : Option Completed). c ≡ None) refl r s)
 
 -- ---- what isn't direct
 
@@ -174,26 +183,34 @@ module _ (m : Setting) (b : State) (sites : List Site) where
   None_of c = direct_in sites c ≡ []
 
   by_soft : (insn : Insn) → is_software insn.op ≡ true → None_of (Some (begun b insn))
-  by_soft insn soft = indirect sites (begun b insn) (ap (λ (x : Bool). not x && cond (b.cpu.cpl == 3) (not (needs_descriptor insn.op)) (not (is_site_at sites b.cpu.regs.eip))) soft)
+  by_soft insn soft = indirect sites (begun b insn)
+      (ap (λ (x : Bool). not x && cond (b.cpu.cpl == 3) (not (needs_descriptor insn.op)) (not (is_site_at sites b.cpu.regs.eip))) soft)
 
-  by_user : (insn : Insn) → (b.cpu.cpl == 3) ≡ true → is_native (b.cpu.cpl == 3) insn.op ≡ false → is_barred insn.op ≡ false → None_of (Some (begun b insn))
+  by_user : (insn : Insn) → (b.cpu.cpl == 3) ≡ true → is_native (b.cpu.cpl == 3) insn.op ≡ false → is_barred insn.op ≡ false
+      → None_of (Some (begun b insn))
   by_user insn user native free =
       indirect sites (begun b insn)
       (ap (λ (x : Bool). not (is_software insn.op) && cond x (not (needs_descriptor insn.op)) (not (is_site_at sites b.cpu.regs.eip))) user
       ∙ soft_or_needs insn.op (ap (λ (x : Bool). is_native x insn.op) (sym user) ∙ native) free)
 
   -- a user's instruction that isn't done by the host
-  by_bar : (insn : Insn) (len : ℕ) (s : Space) → IsUser b.cpu → is_native (b.cpu.cpl == 3) insn.op ≡ false → (test : Bool) → is_barred insn.op ≡ test → DoneIf (None_of (Some (begun b insn))) (instructed insn len b.cpu s)
+  by_bar : (insn : Insn) (len : ℕ) (s : Space) → IsUser b.cpu → is_native (b.cpu.cpl == 3) insn.op ≡ false → (test : Bool)
+      → is_barred insn.op ≡ test → DoneIf (None_of (Some (begun b insn))) (instructed insn len b.cpu s)
   by_bar insn len s user native true bars =
       let u = and_parts (b.cpu.cpl == 3) (is_open b.cpu) user in
       never_done (None_of (Some (begun b insn))) (instructed insn len b.cpu s)
-      (subst (DoneIf ⊥) (sym (instructed_by insn.op insn len b.cpu s refl)) (barred b.cpu (eqb-true b.cpu.cpl 3 u.0) u.1 insn.op insn len s bars))
+      (subst (DoneIf ⊥) (sym (instructed_by insn.op insn len b.cpu s refl))
+      (barred b.cpu (eqb-true b.cpu.cpl 3 u.0) u.1 insn.op insn len s bars))
   by_bar insn len s user native false free =
-      done_anyhow (None_of (Some (begun b insn))) (instructed insn len b.cpu s) (by_user insn (and_parts (b.cpu.cpl == 3) (is_open b.cpu) user).0 native free)
+      done_anyhow (None_of (Some (begun b insn))) (instructed insn len b.cpu s)
+      (by_user insn (and_parts (b.cpu.cpl == 3) (is_open b.cpu) user).0 native free)
 
-  of_op : (o : Op) (insn : Insn) (len : ℕ) (s : Space) → insn.op ≡ o → is_native (b.cpu.cpl == 3) insn.op ≡ false → IsUser b.cpu ⊎ (is_software insn.op ≡ true) → CompletesAs None_of (by_op m o b insn len s)
-  of_op op.Int insn len s e native h = of_software m b None_of refl (begun b insn) (insn.imm % 256) (delivered (past b.cpu len) (insn.imm % 256) Soft None s) (by_soft insn (ap is_software e))
-  of_op op.Int3 insn len s e native h = of_software m b None_of refl (begun b insn) 3 (delivered (past b.cpu len) 3 Soft None s) (by_soft insn (ap is_software e))
+  of_op : (o : Op) (insn : Insn) (len : ℕ) (s : Space) → insn.op ≡ o → is_native (b.cpu.cpl == 3) insn.op ≡ false → IsUser b.cpu
+      ⊎ (is_software insn.op ≡ true) → CompletesAs None_of (by_op m o b insn len s)
+  of_op op.Int insn len s e native h = of_software m b None_of refl (begun b insn) (insn.imm % 256)
+      (delivered (past b.cpu len) (insn.imm % 256) Soft None s) (by_soft insn (ap is_software e))
+  of_op op.Int3 insn len s e native h =
+      of_software m b None_of refl (begun b insn) 3 (delivered (past b.cpu len) 3 Soft None s) (by_soft insn (ap is_software e))
   of_op o insn len s e native h =
       of_instruction m b None_of refl (begun b insn) (instructed insn len b.cpu s)
       (elim h [
@@ -202,6 +219,9 @@ module _ (m : Setting) (b : State) (sites : List Site) where
       ])
 
 -- what a user's processor doesn't do by itself, INT and INT3 complete nothing direct
-pub others_uncounted : (m : Setting) (b : State) (insn : Insn) (len : ℕ) (s : Space) → is_native (b.cpu.cpl == 3) insn.op ≡ false → IsUser b.cpu ⊎ (is_software insn.op ≡ true)
-    → (worked : Worked) (board : Board) (t : Space) → by_decoded m b (begins.Insn insn len) s ≡ went_as b worked board t → (sites : List Site) → direct_in sites (completed_by worked.completed) ≡ []
-others_uncounted m b insn len s native h worked board t e sites = subst (CompletesAs (λ (c : Option Completed). direct_in sites c ≡ [])) e (of_op m b sites insn.op insn len s refl native h)
+pub others_uncounted : (m : Setting) (b : State) (insn : Insn) (len : ℕ) (s : Space) → is_native (b.cpu.cpl == 3) insn.op ≡ false
+    → IsUser b.cpu ⊎ (is_software insn.op ≡ true)
+    → (worked : Worked) (board : Board) (t : Space) → by_decoded m b (begins.Insn insn len) s ≡ went_as b worked board t
+    → (sites : List Site) → direct_in sites (completed_by worked.completed) ≡ []
+others_uncounted m b insn len s native h worked board t e sites =
+    subst (CompletesAs (λ (c : Option Completed). direct_in sites c ≡ [])) e (of_op m b sites insn.op insn len s refl native h)

@@ -13,5 +13,6 @@ use Rattle.wedge_step.specs.declared.running.Lost.{Lost}
 
 abbrev pub AlonesGo : Type 0
 AlonesGo =
-    (m : Setting) (b : State) (lost : Lost) (result : Result Seen Stop) (new : State) (counts : Counts) → m.mode ≡ wedge_mode m.image → IsLevel b.cpu.cpl → may_run b.cpu b.board m.image ≡ false
+    (m : Setting) (b : State) (lost : Lost) (result : Result Seen Stop) (new : State) (counts : Counts) → m.mode ≡ wedge_mode m.image
+    → IsLevel b.cpu.cpl → may_run b.cpu b.board m.image ≡ false
     → lost.before ≡ false → AloneAs m b lost result new → StepAs m b lost result new counts counts

@@ -36,7 +36,12 @@ module _ {S : Type 0} (g : shadows.Ghosts S) where
     pub reloaded : OnOk result (notes_wanted ≡ true → new.guest.lost.reloaded ≡ false)
     pub count : WhereStepped result (new.guest.step ≡ old.guest.step + 1)
     pub asked : WhereAsked result
-        (new.guest ≡ record old.guest { shadows = new.guest.shadows; held = new.guest.held; fills = new.guest.fills; lost = new.guest.lost })
+        (new.guest ≡ record old.guest {
+          shadows = new.guest.shadows;
+          held = new.guest.held;
+          fills = new.guest.fills;
+          lost = new.guest.lost;
+        })
     pub stays : OnErr result (Stays old new)
 
   -- of a step that is taken from here by this set, with a whole pool and no notes wanted
@@ -73,7 +78,8 @@ module _ {S : Type 0} (g : shadows.Ghosts S) where
     pub leaves : AttemptLeaves image notes_wanted old new result
     pub before : new.guest.lost.before ≡ old.guest.lost.before
     pub carried : WhereStepped result
-        ((script : Events) (steps : List Taken) (t : Taken) → WhereTaken image notes_wanted (set_in g old) old script steps t (GoesOver image old new script steps t))
+        ((script : Events) (steps : List Taken) (t : Taken) → WhereTaken image notes_wanted (set_in g old) old script steps t
+        (GoesOver image old new script steps t))
     pub carried_asked : WhereAsked result
         ((script : Events) (steps : List Taken) (t : Taken) → WhereTaken image notes_wanted (set_in g old) old script steps t
         (WhereByHost old new t (GoesOver image old new script steps t)))

@@ -30,7 +30,8 @@ pub record Asks (m : Setting) (view : View) (b : State) (before : Bool) (lost : 
   pub regs : Regs
   pub completes : Completes m memory view new regs
   pub same : (report : Report) (then : State) → stepped m new ≡ Went report then
-      → (tables wrote : List ℕ) × (stepped m (with_set b (left_of before b.set)) ≡ Went (record report { tables = tables; wrote = wrote }) then)
+      → (tables wrote : List ℕ)
+      × (stepped m (with_set b (left_of before b.set)) ≡ Went (record report { tables = tables; wrote = wrote }) then)
 
 -- Before the step all translations may have been dropped; `lost` says what it lost or brought back.
 abbrev pub AttemptAs : Setting → View → State → Bool → Lost → Result Attempt Stop → State → List ℕ → Type 0

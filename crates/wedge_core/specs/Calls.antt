@@ -55,7 +55,8 @@ pub record Adopts (image : Image) (frames : ℕ) (first : State) (before : Pool)
 pub record BeginsSlice (old new : Scene Roots) : Type 0 where
   pub running : new.guest ≡ record old.guest { shadows = new.guest.shadows }
   pub held : StaysHeld of_roots old new
-  pub ready : (image : Image) → IsReadyIn of_roots (ground image old.guest.frames) old → IsReadyIn of_roots (ground image old.guest.frames) new
+  pub ready : (image : Image) → IsReadyIn of_roots (ground image old.guest.frames) old
+      → IsReadyIn of_roots (ground image old.guest.frames) new
   pub state : (m : Setting) → m.frames ≡ old.guest.frames → state_in of_roots m new ≡ state_in of_roots m old
   pub keeps : Keeps old.pool new.pool old.memory new.memory (frames_in of_roots old) (frames_in of_roots new)
   pub fewer : kept_in of_roots new ≤ kept_in of_roots old
@@ -82,6 +83,7 @@ pub record Releases (old new : Scene Roots) : Type 0 where
   pub same_cr3 : of_roots.cr3 new.guest.shadows ≡ of_roots.cr3 old.guest.shadows
   pub moves : Moves old.pool new.pool old.memory new.memory (frames_in of_roots old) (frames_in of_roots new)
   pub again : StaysHeld of_roots old new
-  pub ready : (image : Image) → IsReadyIn of_roots (ground image old.guest.frames) old → IsReadyIn of_roots (ground image old.guest.frames) new
+  pub ready : (image : Image) → IsReadyIn of_roots (ground image old.guest.frames) old
+      → IsReadyIn of_roots (ground image old.guest.frames) new
   pub filled : WereFilled (kept_in of_roots new) new.guest.fills
   pub outside : SameOutside (base_of old.pool) (count_of old.pool) old.memory new.memory

@@ -30,7 +30,8 @@ module _ {S : Type 0} (g : shadows.Ghosts S) where
   pub record StaysBeside (old new : Scene S) : Type 0 where
     pub ready : (m : Setting) → m.frames ≡ old.guest.frames → IsReadyIn g m old → IsReadyIn g m new
     pub reloaded : new.guest.lost.reloaded ≡ old.guest.lost.reloaded
-    pub has_tables_under : (indices : ℕ → Bool) → g.has_tables_under old.guest.shadows old.memory indices → g.has_tables_under new.guest.shadows new.memory indices
+    pub has_tables_under : (indices : ℕ → Bool) → g.has_tables_under old.guest.shadows old.memory indices
+        → g.has_tables_under new.guest.shadows new.memory indices
     pub fewer : kept_in g new ≤ kept_in g old
     pub guest : take (4096 * old.guest.frames) new.memory ≡ take (4096 * old.guest.frames) old.memory
 

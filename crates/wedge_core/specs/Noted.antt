@@ -21,7 +21,8 @@ EndsTold m last new notes (Err failed) = Unit {0}
 -- Before each step of a slice the translations are those that the step before left, without those that were dropped by
 -- these notes; and so at its end. At most two are reported of a step. A page that is dropped after the last step is one that
 -- the set which this step left holds.
-pub record IsNoted (m : Setting) (old new : State) (sets : List Set) (last : State) (notes : List Note) (result : Result Pause Failed) : Type 0 where
+pub record IsNoted (m : Setting) (old new : State) (sets : List Set) (last : State) (notes : List Note)
+    (result : Result Pause Failed) : Type 0 where
   pub told : AreTold m old sets notes
   pub are : AreNotes m old sets last.step notes
   pub two : (step : ℕ) → length (filter (λ (note : Note). step_in note == step) notes) ≤ 2

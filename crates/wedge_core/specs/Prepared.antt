@@ -46,6 +46,7 @@ gone (Err stop) = Err stop
 
 -- After the fetch the instruction raised, so that the step went and completed nothing; or it stopped; or it is prepared.
 abbrev pub PreparesAs : Setting → State → Insn → ℕ → Space → Result (Option Worked) Stop → Space → Type 0
-PreparesAs m b insn len s (Ok (Some worked)) t = (steps.by_decoded m b (begins.Insn insn len) s ≡ went_as b worked b.board t) × (completed_by worked.completed ≡ None)
+PreparesAs m b insn len s (Ok (Some worked)) t =
+    (steps.by_decoded m b (begins.Insn insn len) s ≡ went_as b worked b.board t) × (completed_by worked.completed ≡ None)
 PreparesAs m b insn len s (Ok None) t = prepared insn len b.cpu s ≡ Ok (tt, t)
 PreparesAs m b insn len s (Err stop) t = steps.by_decoded m b (begins.Insn insn len) s ≡ steps.Halts stop

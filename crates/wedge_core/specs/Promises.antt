@@ -27,7 +27,8 @@ HasMemory m last (Stopped stop) memory = Unit {0}
 -- One run from the start has this text, count of steps and end. The host completed exactly its direct instructions, and
 -- where it has done all its steps, its memory is the host's first frames with the text patched. With a pool of 512 frames its
 -- sets keep the rule for kept translations, that by which it stops among them.
-pub record Promise (m : Setting) (n pool : ℕ) (text : List ℕ) (count : ℕ) (end : End) (before after : Counts) (memory : List ℕ) : Type 0 where
+pub record Promise (m : Setting) (n pool : ℕ) (text : List ℕ) (count : ℕ) (end : End) (before after : Counts)
+    (memory : List ℕ) : Type 0 where
   pub sets : List Set
   pub reports : List Report
   pub last : State
@@ -53,6 +54,7 @@ IsEnd m n pool sets last Bound ends set = pool ≡ 512 → Roomy (steps_by m (bo
 IsEnd m n pool sets last (Stopped stop) ends set = set ≡ ends.1.set
 
 -- how many pages were filled, beside the set at the end
-pub record HasOwnFills (m : Setting) (n pool : ℕ) (sets : List Set) (last : State) (end : End) (ends : EndsIn m n last end) (fills : ℕ) : Type 0 where
+pub record HasOwnFills (m : Setting) (n pool : ℕ) (sets : List Set) (last : State) (end : End) (ends : EndsIn m n last end)
+    (fills : ℕ) : Type 0 where
   pub filled : HasFills m sets last fills
   pub own : IsEnd m n pool sets last end ends filled.end

@@ -49,11 +49,16 @@ pub record Ran {S : Type 0} (v : View) (k : ℕ) (s : Standing) (old : Running S
   pub count : then.retired ≡ s.retired + done
   pub few : done ≤ k
   pub none : done ≡ 0 → new ≡ old
-  pub some : 0 < done → new ≡ record old { cpu = record old.cpu { regs = landed exit regs; held = false }; board = board_steps done old.board; step = old.step + done }
+  pub some : 0 < done → new ≡ record old {
+    cpu = record old.cpu { regs = landed exit regs; held = false };
+    board = board_steps done old.board;
+    step = old.step + done;
+  }
 
 -- The host was asked for as many instructions as pass before the next edge or event, and for no more than `limit`. The events
 -- of this step were given.
-pub record RanOn {S : Type 0} (v : View) (script : Events) (limit : ℕ) (s : Standing) (old : Running S) (done : ℕ) (new : Running S) (then : Hosted) : Type 0 where
+pub record RanOn {S : Type 0} (v : View) (script : Events) (limit : ℕ) (s : Standing) (old : Running S) (done : ℕ) (new : Running S)
+    (then : Hosted) : Type 0 where
   pub asked : ℕ
   pub most : asked ≤ limit
   pub furthest : asked < limit → comes_within old.board script old.step asked ≡ true

@@ -21,7 +21,8 @@ use Rattle.run_trace.specs.Pauses.{IfReached, PutsAs}
 -- translations, which it may use. The sink may fail before.
 abbrev pub PausesAs : Setting → ℕ → State → State → Set → Result Pause Failed → Type 0
 PausesAs m bound last new end (Ok Reached) = (last.step ≡ bound) × (new ≡ with_set last end) × Loosened m last end
-PausesAs m bound last new end (Ok (Stopped stop)) = (last.step < bound) × (new.step ≡ last.step) × Loosened m last end × (step_of m last end ≡ Halts stop)
+PausesAs m bound last new end (Ok (Stopped stop)) =
+    (last.step < bound) × (new.step ≡ last.step) × Loosened m last end × (step_of m last end ≡ Halts stop)
 PausesAs m bound last new end (Err failed) = last.step ≤ bound
 
 -- What is done outside: the host's counts and what the sink has taken, before and after.
@@ -48,7 +49,8 @@ pub record Noting : Type 1 where
 -- no more pages than were kept at first and were filled since. Where the slice begins so, the sets keep the rule for kept
 -- translations, and so does the one after them: the next step stops by it, or a run may go on with it. Where all steps were
 -- done that is what the rule lets be left after them.
-pub record SliceAs (m : Setting) (bound : ℕ) (old new : State) (out : Outward) (filling : Filling) (noting : Noting) (begins : Type 0) (result : Result Pause Failed) : Type 0 where
+pub record SliceAs (m : Setting) (bound : ℕ) (old new : State) (out : Outward) (filling : Filling) (noting : Noting) (begins : Type 0)
+    (result : Result Pause Failed) : Type 0 where
   pub sets : List Set
   pub reports : List Report
   pub last : State

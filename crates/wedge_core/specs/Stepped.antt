@@ -45,7 +45,8 @@ module _ {S : Type 0} (g : shadows.Ghosts S) where
     pub carried : OnOk result (CarriesOn g image notes_wanted (set_in g old) old new)
 
   -- A step, by what is kept or by what is left of it, with what the host counts.
-  pub record StepsOnce (image : Image) (notes_wanted : Bool) (old new : Scene S) (result : Result Seen Stop) (before after : Counts) : Type 0 where
+  pub record StepsOnce (image : Image) (notes_wanted : Bool) (old new : Scene S) (result : Result Seen Stop)
+      (before after : Counts) : Type 0 where
     pub step : (script : Events) → StepAs (wedge image script old.guest.frames) (state_in g (wedge image script old.guest.frames) old)
         new.guest.lost result (state_in g (wedge image script old.guest.frames) new) before after
     pub leaves : StepLeaves image notes_wanted old new result

@@ -44,5 +44,6 @@ RefusedWedge image script frames n a fault.Write =
     (text : List ℕ) × (count : ℕ) × (end : End) × (need image ≤ frames) × CanGive (wedge image script frames) n text count end
     × AppendsFront a.taken a.taken_after text × Rose a.faults a.faults_after
 -- the image needs more frames than there are
-RefusedWedge image script frames n a (fault.TooSmall small) = (frames < need image) × (small ≡ record { need = need image; have = frames }) × IsUntouched a
+RefusedWedge image script frames n a (fault.TooSmall small) =
+    (frames < need image) × (small ≡ record { need = need image; have = frames }) × IsUntouched a
 RefusedWedge image script frames n a fault.Memory = IsUntouched a

@@ -44,11 +44,13 @@ pub record IsPrepared (b : State) (s t : Space) : Type 0 where
 
 -- what is read at EIP and isn't native belongs to a user, or is INT or INT3
 abbrev pub OthersAreUsers : State → Space → Type 0
-OthersAreUsers b s = (insn : Insn) (len : ℕ) (after_fetch : Space) → fetched (b.cpu.cpl == 3) b.cpu.regs.eip s ≡ Ok (begins.Insn insn len, after_fetch)
+OthersAreUsers b s =
+    (insn : Insn) (len : ℕ) (after_fetch : Space) → fetched (b.cpu.cpl == 3) b.cpu.regs.eip s ≡ Ok (begins.Insn insn len, after_fetch)
     → is_native (b.cpu.cpl == 3) insn.op ≡ false → IsUser b.cpu ⊎ (is_software insn.op ≡ true)
 
 -- Of a step that went here the host did nothing, so nothing of it is direct.
 abbrev pub TriesAs : Setting → State → Space → Result (Option Worked) Stop → Board → Space → Type 0
-TriesAs m b s (Ok (Some worked)) board t = (steps.fetches_next m b s ≡ went_as b worked board t) × (OthersAreUsers b s → (sites : List Site) → direct_in sites (completed_by worked.completed) ≡ [])
+TriesAs m b s (Ok (Some worked)) board t = (steps.fetches_next m b s ≡ went_as b worked board t)
+    × (OthersAreUsers b s → (sites : List Site) → direct_in sites (completed_by worked.completed) ≡ [])
 TriesAs m b s (Ok None) board t = (board ≡ b.board) × IsPrepared b s t
 TriesAs m b s (Err stop) board t = steps.fetches_next m b s ≡ steps.Halts stop

@@ -20,9 +20,11 @@ use Rattle.wedge_core.specs.Views.{view_by}
 abbrev pub ViewsLend : Type 0
 ViewsLend =
     (m : Setting) (memory : List ℕ) (root : ℕ) (side : Side) (wp : Bool) (slots : ℕ → Option Slot) (set : Set)
-    → ((page : ℕ) (write : Bool) → page < 2 ^ 20 → reached memory (length memory / 4096) root page write ≡ lent (length memory / 4096) (slots page) side write)
+    → ((page : ℕ) (write : Bool) → page < 2 ^ 20 → reached memory (length memory / 4096) root page write ≡ lent (length memory / 4096)
+    (slots page) side write)
     → ((page : ℕ) → page < 2 ^ 20 → get (entries_of slots) page ≡ entry_in (slots page))
-    → AreWithin m.frames (entries_of slots) → AreOpen m.image wp slots → IsPartOf (entries_of slots) set → Lends m memory root (is_kernel side) wp set
+    → AreWithin m.frames (entries_of slots) → AreOpen m.image wp slots → IsPartOf (entries_of slots) set
+    → Lends m memory root (is_kernel side) wp set
 
 abbrev pub ViewsSee : Type 0
 ViewsSee = (directory : Side → ℕ) (cpu : Cpu) → IsAble cpu → Sees (view_by directory cpu) cpu

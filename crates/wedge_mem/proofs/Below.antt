@@ -19,7 +19,8 @@ frames-same (suc n) m m' h =
 none-low : (b n g : ℕ) (fs : List ℕ) → g < b → ((f : ℕ) → 1 ≤ times f fs → b ≤ f) → times g fs ≡ 0
 none-low b n g fs l h = elim (zero-or (times g fs)) [ inl z ↦ z | inr k ↦ absurd (let low = h g k in omega (arith, low, l)) ]
 
-pub below-same : (p p' : Pool) (m m' fs fs' : List ℕ) → Owns p m fs → Moves p p' m m' fs fs' → take (4096 * base_of p) m' ≡ take (4096 * base_of p) m
+pub below-same : (p p' : Pool) (m m' fs fs' : List ℕ) → Owns p m fs → Moves p p' m m' fs fs'
+    → take (4096 * base_of p) m' ≡ take (4096 * base_of p) m
 below-same p p' m m' fs fs' o v =
     frames-same p.base m m' (λ g l. v.others g
     (none-low p.base p.count g (free_list p m) l (λ f k. (times-within p.base p.count f (free_list p m) o.stands.within k).0))

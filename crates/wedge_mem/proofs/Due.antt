@@ -39,15 +39,18 @@ still w false p h e = e
 abbrev slot : Side → Entry → Bool → Bool → Slot
 slot side entry reads writes = record { side = side; entry = entry; reads = reads; writes = writes }
 
-slot-same : (s : Slot) (side : Side) (reads writes : Bool) → s.side ≡ side → s.reads ≡ reads → s.writes ≡ writes → Some s ≡ Some (slot side s.entry reads writes)
+slot-same : (s : Slot) (side : Side) (reads writes : Bool) → s.side ≡ side → s.reads ≡ reads → s.writes ≡ writes
+    → Some s ≡ Some (slot side s.entry reads writes)
 slot-same s side reads writes a b c = λ i. Some (slot (a i) s.entry (b i) (c i))
 
-pub serves-same : (side : Side) (wp : Bool) (write_protected : List ℕ) (o : Option Slot) → ((s : Slot) → o ≡ Some s → is_among s.entry.frame write_protected ≡ true → s.writes ≡ false)
+pub serves-same : (side : Side) (wp : Bool) (write_protected : List ℕ) (o : Option Slot)
+    → ((s : Slot) → o ≡ Some s → is_among s.entry.frame write_protected ≡ true → s.writes ≡ false)
     → serves side wp o ≡ true → o ≡ filled_by side wp write_protected (entry_in o)
 serves-same side wp write_protected None h e = refl
 serves-same side wp write_protected (Some s) h e =
     let p = parts (permits side s.entry false wp) (is_side s.side side) s.reads (permits side s.entry true wp) s.writes e in
-    slot-same s side (permits side s.entry false wp) (not (is_among s.entry.frame write_protected) && permits side s.entry true wp) (side-is s.side side p.0) p.1
+    slot-same s side (permits side s.entry false wp) (not (is_among s.entry.frame write_protected) && permits side s.entry true wp)
+    (side-is s.side side p.0) p.1
     (still s.writes (is_among s.entry.frame write_protected) (permits side s.entry true wp) (h s refl) p.2)
 
 pub served-not : (h s : Bool) → s ≡ true → false ≡ (h && not s)
@@ -56,7 +59,8 @@ served-not false s e = refl
 
 -- ---- a page whose entry the step changed
 
-some-by : (b : Bool) (x y : Option Entry) (cs : List Change) (q : ℕ) → ((z : Option Entry) → last_change (Some z) cs q ≡ None → ⊥) → last_change (cond b (Some x) (Some y)) cs q ≡ None → ⊥
+some-by : (b : Bool) (x y : Option Entry) (cs : List Change) (q : ℕ) → ((z : Option Entry) → last_change (Some z) cs q ≡ None → ⊥)
+    → last_change (cond b (Some x) (Some y)) cs q ≡ None → ⊥
 some-by true x y cs q h e = h x e
 some-by false x y cs q h e = h y e
 
@@ -70,8 +74,10 @@ changed-some f (c ∷ cs) q t e =
     elim (eqb_tells q (page_of c)) [
       | inl s ↦
           some-still (entry_of c) cs q
-          (sym (ap (λ (b : Bool). last_change (cond b (Some (entry_of c)) f) cs q) (ap (λ (x : ℕ). eqb (page_of c) x) s.1 ∙ self (page_of c))) ∙ e)
-      | inr n ↦ changed-some (cond (eqb (page_of c) q) (Some (entry_of c)) f) cs q (sym (ap (λ (b : Bool). b || is_among q (map page_of cs)) n.0) ∙ t) e
+          (sym (ap (λ (b : Bool). last_change (cond b (Some (entry_of c)) f) cs q)
+          (ap (λ (x : ℕ). eqb (page_of c) x) s.1 ∙ self (page_of c))) ∙ e)
+      | inr n ↦ changed-some (cond (eqb (page_of c) q) (Some (entry_of c)) f) cs q
+          (sym (ap (λ (b : Bool). b || is_among q (map page_of cs)) n.0) ∙ t) e
     ]
 
 changed-told : (cs : List Change) (q : ℕ) (x : Option Entry) → last_change None cs q ≡ Some x → is_among q (map page_of cs) ≡ true
@@ -92,7 +98,8 @@ module _ (kept : ℕ → Option Slot) (cs : List Change) (page : ℕ) where
 
   pub entry-unchanged : page < 2 ^ 20 → last_change None cs page ≡ None → get (changed (entries_of kept) cs) page ≡ entry_in (kept page)
   entry-unchanged l e =
-      get_changed (entries_of kept) cs page ∙ ap (λ (o : Option (Option Entry)). settle o (get (entries_of kept) page)) e ∙ get-entries_of kept page l
+      get_changed (entries_of kept) cs page ∙ ap (λ (o : Option (Option Entry)). settle o (get (entries_of kept) page)) e
+      ∙ get-entries_of kept page l
 
   pub beyond-none : AreOfPages cs → 2 ^ 20 ≤ page → get (changed (entries_of kept) cs) page ≡ None
   beyond-none a h =
@@ -127,7 +134,8 @@ module _ (kept : ℕ → Option Slot) (cs : List Change) (side : Side) (wp : Boo
   IsFilledAs b = b ≡ ((has_entry (get (changed (entries_of kept) cs) page) && not (is_among page later)) && is_due kept cs side wp page)
 
   pub filled-beyond : AreOfPages cs → 2 ^ 20 ≤ page → IsFilledAs false
-  filled-beyond a h = none-first (get (changed (entries_of kept) cs) page) (not (is_among page later)) (is_due kept cs side wp page) (beyond-none kept cs page a h)
+  filled-beyond a h = none-first (get (changed (entries_of kept) cs) page) (not (is_among page later)) (is_due kept cs side wp page)
+      (beyond-none kept cs page a h)
 
   pub filled-later : is_among page later ≡ true → IsFilledAs false
   filled-later t = later-none (has_entry (get (changed (entries_of kept) cs) page)) (is_among page later) (is_due kept cs side wp page) t
@@ -138,10 +146,12 @@ module _ (kept : ℕ → Option Slot) (cs : List Change) (side : Side) (wp : Boo
       ∙ all-true (has_entry (get (changed (entries_of kept) cs) page)) (is_among page later) (is_due kept cs side wp page) n
       (ap (λ (b : Bool). b || not (serves side wp (kept page))) (changed-told cs page x e))
 
-  pub filled-again : page < 2 ^ 20 → last_change None cs page ≡ None → is_among page later ≡ false → IsFilledAs (has_entry (entry_in (kept page)) && not (serves side wp (kept page)))
+  pub filled-again : page < 2 ^ 20 → last_change None cs page ≡ None → is_among page later ≡ false
+      → IsFilledAs (has_entry (entry_in (kept page)) && not (serves side wp (kept page)))
   filled-again l e n =
       ap (λ (o : Option Entry). has_entry o && not (serves side wp (kept page))) (sym (entry-unchanged kept cs page l e))
-      ∙ last-true (has_entry (get (changed (entries_of kept) cs) page)) (is_among page later) (is_among page (map page_of cs)) (serves side wp (kept page)) n (unchanged-told cs page e)
+      ∙ last-true (has_entry (get (changed (entries_of kept) cs) page)) (is_among page later) (is_among page (map page_of cs))
+      (serves side wp (kept page)) n (unchanged-told cs page e)
 
 -- ---- what a fill of it takes, and leaves
 
@@ -151,9 +161,11 @@ with-true false = refl
 
 pub takes-one : (o e : Option Entry) (b : Bool) → o ≡ e → b ≡ false → cond {A = ℕ} (has_entry o && not b) 1 0 ≡ cond (has_entry e) 1 0
 takes-one o e b is n =
-    ap (λ (x : Bool). cond {A = ℕ} (has_entry o && not x) 1 0) n ∙ with-true (has_entry o) ∙ ap (λ (x : Option Entry). cond {A = ℕ} (has_entry x) 1 0) is
+    ap (λ (x : Bool). cond {A = ℕ} (has_entry o && not x) 1 0) n ∙ with-true (has_entry o)
+    ∙ ap (λ (x : Option Entry). cond {A = ℕ} (has_entry x) 1 0) is
 
-pub turned-last : (old new : ℕ → Option Slot) (page : ℕ) (later : List ℕ) (v w : Option Slot) → Turns old new page v → is_among page later ≡ false → v ≡ w
+pub turned-last : (old new : ℕ → Option Slot) (page : ℕ) (later : List ℕ) (v w : Option Slot) → Turns old new page v
+    → is_among page later ≡ false → v ≡ w
     → (q : ℕ) → q < 2 ^ 20 → new q ≡ cond (eqb q page && not (is_among page later)) w (old q)
 turned-last old new page later v w t n e q l =
     elim (eqb_tells q page) [
@@ -166,32 +178,41 @@ turned-last old new page later v w t n e q l =
 module _ (kept : ℕ → Option Slot) (set : FinMap nat_cmp Entry) (cs : List Change) (side : Side) (wp : Bool) where
   -- the page at this place is filled
   abbrev pub is_filled_at : List ℕ → ℕ → Bool
-  is_filled_at xs i = (has_entry (get set (get_or xs i 0)) && not (is_among (get_or xs i 0) (drop (i + 1) xs))) && is_due kept cs side wp (get_or xs i 0)
+  is_filled_at xs i =
+      (has_entry (get set (get_or xs i 0)) && not (is_among (get_or xs i 0) (drop (i + 1) xs))) && is_due kept cs side wp (get_or xs i 0)
 
   pub refilled-at : (xs : List ℕ) (i : ℕ) → i < length xs
-      → length (refilled kept set cs side wp (drop i xs)) ≡ cond (is_filled_at xs i) 1 0 + length (refilled kept set cs side wp (drop (i + 1) xs))
+      → length (refilled kept set cs side wp (drop i xs)) ≡ cond (is_filled_at xs i) 1 0
+      + length (refilled kept set cs side wp (drop (i + 1) xs))
   refilled-at xs i h =
       ap (λ (ys : List ℕ). length (refilled kept set cs side wp ys)) (drop_more xs i 0 h)
       ∙ used-by (is_filled_at xs i) (get_or xs i 0) (refilled kept set cs side wp (drop (i + 1) xs))
 
 module _ (f g : ℕ → Option Slot) (set : FinMap nat_cmp Entry) (cs : List Change) (side : Side) (wp : Bool)
     (same : (q : ℕ) → q < 2 ^ 20 → f q ≡ g q) (beyond : (q : ℕ) → 2 ^ 20 ≤ q → get set q ≡ None) where
-  due-same : (q : ℕ) (b : Bool) → ((has_entry (get set q) && b) && is_due f cs side wp q) ≡ ((has_entry (get set q) && b) && is_due g cs side wp q)
+  due-same : (q : ℕ) (b : Bool) → ((has_entry (get set q) && b) && is_due f cs side wp q)
+      ≡ ((has_entry (get set q) && b) && is_due g cs side wp q)
   due-same q b =
       elim (cases_lt q (2 ^ 20)) [
-        | inl l ↦ ap (λ (o : Option Slot). (has_entry (get set q) && b) && (is_among q (map page_of cs) || not (serves side wp o))) (same q l)
-        | inr h ↦ sym (none-first (get set q) b (is_due f cs side wp q) (beyond q h)) ∙ none-first (get set q) b (is_due g cs side wp q) (beyond q h)
+        | inl l ↦ ap (λ (o : Option Slot). (has_entry (get set q) && b) && (is_among q (map page_of cs) || not (serves side wp o)))
+            (same q l)
+        | inr h ↦ sym (none-first (get set q) b (is_due f cs side wp q) (beyond q h))
+            ∙ none-first (get set q) b (is_due g cs side wp q) (beyond q h)
       ]
 
   pub refilled-same : (pages : List ℕ) → refilled f set cs side wp pages ≡ refilled g set cs side wp pages
   refilled-same [] = refl
   refilled-same (page ∷ pages) =
-      ap (λ (b : Bool). cond {A = List ℕ} b (page ∷ refilled f set cs side wp pages) (refilled f set cs side wp pages)) (due-same page (not (is_among page pages)))
-      ∙ ap (λ (ys : List ℕ). cond {A = List ℕ} ((has_entry (get set page) && not (is_among page pages)) && is_due g cs side wp page) (page ∷ ys) ys) (refilled-same pages)
+      ap (λ (b : Bool). cond {A = List ℕ} b (page ∷ refilled f set cs side wp pages) (refilled f set cs side wp pages))
+      (due-same page (not (is_among page pages)))
+      ∙ ap (λ (ys : List ℕ). cond {A = List ℕ} ((has_entry (get set page) && not (is_among page pages)) && is_due g cs side wp page)
+      (page ∷ ys) ys) (refilled-same pages)
 
 -- a page that wasn't gone through before is filled by what is kept now as by what was kept at first
-pub filled-still : (xs : List ℕ) (i : ℕ) (old now : ℕ → Option Slot) (cs : List Change) (side : Side) (wp : Bool) (ys : List ℕ) (r : Bool) → AreOfPages cs → ys ≡ drop (i + 1) xs
-    → get (changed (entries_of now) cs) (get_or xs i 0) ≡ get (changed (entries_of old) cs) (get_or xs i 0) → (get_or xs i 0 < 2 ^ 20 → now (get_or xs i 0) ≡ old (get_or xs i 0))
+pub filled-still : (xs : List ℕ) (i : ℕ) (old now : ℕ → Option Slot) (cs : List Change) (side : Side) (wp : Bool) (ys : List ℕ) (r : Bool)
+    → AreOfPages cs → ys ≡ drop (i + 1) xs
+    → get (changed (entries_of now) cs) (get_or xs i 0) ≡ get (changed (entries_of old) cs) (get_or xs i 0)
+    → (get_or xs i 0 < 2 ^ 20 → now (get_or xs i 0) ≡ old (get_or xs i 0))
     → IsFilledAs now cs side wp (get_or xs i 0) ys r → r ≡ is_filled_at old (changed (entries_of old) cs) cs side wp xs i
 filled-still xs i old now cs side wp ys r a later entry same is =
     let page : ℕ = get_or xs i 0 in
@@ -201,7 +222,8 @@ filled-still xs i old now cs side wp ys r a later entry same is =
     is ∙ (ap (λ (o : Option Entry). (has_entry o && not (is_among page ys)) && is_due now cs side wp page) entry
     ∙ ap (λ (zs : List ℕ). (has_entry first && not (is_among page zs)) && is_due now cs side wp page) later) in
     elim (cases_lt page (2 ^ 20)) [
-      | inl l ↦ moved ∙ ap (λ (o : Option Slot). (has_entry first && rest) && (is_among page (map page_of cs) || not (serves side wp o))) (same l)
+      | inl l ↦ moved ∙ ap (λ (o : Option Slot). (has_entry first && rest) && (is_among page (map page_of cs) || not (serves side wp o)))
+          (same l)
       | inr h ↦
           let none = beyond-none old cs page a h in
           moved ∙ (sym (none-first first rest (is_due now cs side wp page) none) ∙ none-first first rest (is_due old cs side wp page) none)
@@ -218,12 +240,15 @@ worth-few false = omega arith
 
 -- ---- how many were filled once the tables were noted
 
-pub settled-count : (old mid : ℕ → Option Slot) (cs : List Change) (tables visited : List ℕ) (side : Side) (wp : Bool) (n : ℕ) → AreOfPages cs → entries_of mid ≡ entries_of old
-    → LosesSome (guest_frames tables) old mid → n ≡ length (refilled mid (changed (entries_of mid) cs) cs side wp visited) → IsFillCount old (changed (entries_of old) cs) cs tables visited side wp n
+pub settled-count : (old mid : ℕ → Option Slot) (cs : List Change) (tables visited : List ℕ) (side : Side) (wp : Bool) (n : ℕ)
+    → AreOfPages cs → entries_of mid ≡ entries_of old
+    → LosesSome (guest_frames tables) old mid → n ≡ length (refilled mid (changed (entries_of mid) cs) cs side wp visited)
+    → IsFillCount old (changed (entries_of old) cs) cs tables visited side wp n
 settled-count old mid cs tables visited side wp n a same l is = record {
   lost = l.lost;
   part = l.part;
   exact =
       is ∙ (ap (λ (e : FinMap nat_cmp Entry). length (refilled mid (changed e cs) cs side wp visited)) same
-      ∙ ap length (refilled-same mid (λ page. barred l.lost (old page)) (changed (entries_of old) cs) cs side wp l.loses (λ q h. beyond-none old cs q a h) visited));
+      ∙ ap length (refilled-same mid (λ page. barred l.lost (old page)) (changed (entries_of old) cs) cs side wp l.loses
+      (λ q h. beyond-none old cs q a h) visited));
 }

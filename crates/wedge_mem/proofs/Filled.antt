@@ -19,16 +19,19 @@ use Rattle.wedge_mem.proofs.Lists.{true-false, among-here, among-later}
 
 -- ---- a page that is still to be filled
 
-entries-at : (old now : ℕ → Option Slot) (page : ℕ) → (page < 2 ^ 20 → now page ≡ old page) → get (entries_of now) page ≡ get (entries_of old) page
+entries-at : (old now : ℕ → Option Slot) (page : ℕ) → (page < 2 ^ 20 → now page ≡ old page)
+    → get (entries_of now) page ≡ get (entries_of old) page
 entries-at old now page h =
     elim (cases_lt page (2 ^ 20)) [
       | inl l ↦ get-entries_of now page l ∙ ap entry_in (h l) ∙ sym (get-entries_of old page l)
       | inr g ↦ none-entries_of now page g ∙ sym (none-entries_of old page g)
     ]
 
-pub same-entry : (old now : ℕ → Option Slot) (cs : List Change) (page : ℕ) → (page < 2 ^ 20 → now page ≡ old page) → get (changed (entries_of now) cs) page ≡ get (changed (entries_of old) cs) page
+pub same-entry : (old now : ℕ → Option Slot) (cs : List Change) (page : ℕ) → (page < 2 ^ 20 → now page ≡ old page)
+    → get (changed (entries_of now) cs) page ≡ get (changed (entries_of old) cs) page
 same-entry old now cs page h =
-    get_changed (entries_of now) cs page ∙ ap (settle (last_change None cs page)) (entries-at old now page h) ∙ sym (get_changed (entries_of old) cs page)
+    get_changed (entries_of now) cs page ∙ ap (settle (last_change None cs page)) (entries-at old now page h)
+    ∙ sym (get_changed (entries_of old) cs page)
 
 kept-by : (a b : Bool) (x y : Option Slot) → b ≡ true → cond (a && not b) x y ≡ y
 kept-by true b x y e = ap (λ t. cond (not t) x y) e
@@ -37,12 +40,16 @@ kept-by false b x y e = refl
 pub self : (q : ℕ) → eqb q q ≡ true
 self q = elim (eqb_tells q q) [ inl t ↦ t.0 | inr n ↦ absurd (n.1 refl) ]
 
-pub here-same : (xs : List ℕ) (i : ℕ) (old now : ℕ → Option Slot) (fill : ℕ → Option Slot) → i < length xs → ((q : ℕ) → q < 2 ^ 20 → now q ≡ cond (is_among q xs && not (is_among q (drop i xs))) (fill q) (old q)) → get_or xs i 0 < 2 ^ 20 → now (get_or xs i 0) ≡ old (get_or xs i 0)
+pub here-same : (xs : List ℕ) (i : ℕ) (old now : ℕ → Option Slot) (fill : ℕ → Option Slot) → i < length xs
+    → ((q : ℕ) → q < 2 ^ 20 → now q ≡ cond (is_among q xs && not (is_among q (drop i xs))) (fill q) (old q)) → get_or xs i 0 < 2 ^ 20
+    → now (get_or xs i 0) ≡ old (get_or xs i 0)
 here-same xs i old now fill l h small =
     let q : ℕ = get_or xs i 0 in
     h q small ∙ kept-by (is_among q xs) (is_among q (drop i xs)) (fill q) (old q) (among-here q xs i l (self q))
 
-pub entry-still : (xs : List ℕ) (i : ℕ) (old now : ℕ → Option Slot) (cs : List Change) (fill : ℕ → Option Slot) → i < length xs → ((q : ℕ) → q < 2 ^ 20 → now q ≡ cond (is_among q xs && not (is_among q (drop i xs))) (fill q) (old q)) → get (changed (entries_of now) cs) (get_or xs i 0) ≡ get (changed (entries_of old) cs) (get_or xs i 0)
+pub entry-still : (xs : List ℕ) (i : ℕ) (old now : ℕ → Option Slot) (cs : List Change) (fill : ℕ → Option Slot) → i < length xs
+    → ((q : ℕ) → q < 2 ^ 20 → now q ≡ cond (is_among q xs && not (is_among q (drop i xs))) (fill q) (old q))
+    → get (changed (entries_of now) cs) (get_or xs i 0) ≡ get (changed (entries_of old) cs) (get_or xs i 0)
 entry-still xs i old now cs fill l h = same-entry old now cs (get_or xs i 0) (here-same xs i old now fill l h)
 
 -- ---- one page more is filled
@@ -72,12 +79,14 @@ fill-more xs i old now new fill v l e h k q small =
             k q small
             ∙ kept-by (eqb q p) (is_among p (drop (i + 1) xs)) v (now q) later
             ∙ h q small ∙ kept-by (is_among q xs) (is_among q (drop i xs)) (fill q) (old q) (among-here q xs i l t.0)
-            ∙ sym (kept-by (is_among q xs) (is_among q (drop (i + 1) xs)) (fill q) (old q) (ap (λ x. is_among x (drop (i + 1) xs)) t.1 ∙ later))
+            ∙ sym (kept-by (is_among q xs) (is_among q (drop (i + 1) xs)) (fill q) (old q)
+            (ap (λ x. is_among x (drop (i + 1) xs)) t.1 ∙ later))
         | inr last ↦
             k q small
             ∙ filled-by (eqb q p) (is_among p (drop (i + 1) xs)) v (now q) t.0 last
             ∙ e ∙ ap fill (sym t.1)
-            ∙ sym (filled-by (is_among q xs) (is_among q (drop (i + 1) xs)) (fill q) (old q) (among-all q xs i (among-here q xs i l t.0)) (ap (λ x. is_among x (drop (i + 1) xs)) t.1 ∙ last))
+            ∙ sym (filled-by (is_among q xs) (is_among q (drop (i + 1) xs)) (fill q) (old q) (among-all q xs i (among-here q xs i l t.0))
+            (ap (λ x. is_among x (drop (i + 1) xs)) t.1 ∙ last))
       ]
       | inr n ↦
           k q small
@@ -114,27 +123,33 @@ pub last-beyond : (f : Option (Option Entry)) (cs : List Change) (q : ℕ) → A
 last-beyond f [] q a h = refl
 last-beyond f (c ∷ cs) q a h =
     elim (eqb_tells (page_of c) q) [
-      | inl s ↦ (let low = All-head (λ (change : Change). page_of change < 2 ^ 20) c cs a in let e = s.1 in absurd (omega (arith, low, e, h)))
-      | inr m ↦ ap (λ b. last_change (cond b (Some (entry_of c)) f) cs q) m.0 ∙ last-beyond f cs q (All-tail (λ (change : Change). page_of change < 2 ^ 20) c cs a) h
+      | inl s ↦ (let low = All-head (λ (change : Change). page_of change < 2 ^ 20) c cs a in let e = s.1 in
+          absurd (omega (arith, low, e, h)))
+      | inr m ↦ ap (λ b. last_change (cond b (Some (entry_of c)) f) cs q) m.0
+          ∙ last-beyond f cs q (All-tail (λ (change : Change). page_of change < 2 ^ 20) c cs a) h
     ]
 
 entry-filled : (side : Side) (wp : Bool) (write_protected : List ℕ) (o : Option Entry) → entry_in (filled_by side wp write_protected o) ≡ o
 entry-filled side wp write_protected None = refl
 entry-filled side wp write_protected (Some e) = refl
 
-module _ (old new : ℕ → Option Slot) (visited : List ℕ) (cs : List Change) (side : Side) (wp : Bool) (write_protected : List ℕ) (a : AreOfPages cs) (fills : Fills old new (changed (entries_of old) cs) (pages_of visited cs) side wp write_protected) where
+module _ (old new : ℕ → Option Slot) (visited : List ℕ) (cs : List Change) (side : Side) (wp : Bool) (write_protected : List ℕ)
+    (a : AreOfPages cs) (fills : Fills old new (changed (entries_of old) cs) (pages_of visited cs) side wp write_protected) where
   entry-after : (q : ℕ) → get (entries_of new) q ≡ get (changed (entries_of old) cs) q
   entry-after q =
       elim (cases_lt q (2 ^ 20)) [
         | inl l ↦ elim (cases_Bool (is_among q (pages_of visited cs))) [
-          | inl t ↦ get-entries_of new q l ∙ ap entry_in (fills.through q l t) ∙ entry-filled side wp write_protected (get (changed (entries_of old) cs) q)
+          | inl t ↦ get-entries_of new q l ∙ ap entry_in (fills.through q l t)
+              ∙ entry-filled side wp write_protected (get (changed (entries_of old) cs) q)
           | inr f ↦
               get-entries_of new q l ∙ ap entry_in (fills.others q l f) ∙ sym (get-entries_of old q l)
-              ∙ sym (get_changed (entries_of old) cs q ∙ ap (λ (o : Option (Option Entry)). settle o (get (entries_of old) q)) (last-none None cs q (not-second q visited (map page_of cs) f)))
+              ∙ sym (get_changed (entries_of old) cs q ∙ ap (λ (o : Option (Option Entry)). settle o (get (entries_of old) q))
+              (last-none None cs q (not-second q visited (map page_of cs) f)))
         ]
         | inr g ↦
             none-entries_of new q g ∙ sym (none-entries_of old q g)
-            ∙ sym (get_changed (entries_of old) cs q ∙ ap (λ (o : Option (Option Entry)). settle o (get (entries_of old) q)) (last-beyond None cs q a g))
+            ∙ sym (get_changed (entries_of old) cs q ∙ ap (λ (o : Option (Option Entry)). settle o (get (entries_of old) q))
+            (last-beyond None cs q a g))
       ]
 
   pub entries-filled : entries_of new ≡ changed (entries_of old) cs

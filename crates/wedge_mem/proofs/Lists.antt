@@ -21,13 +21,15 @@ pub if-some : {A : Type 0} {P : A → Type 0} (o : Option A) → ((x : A) → o 
 if-some None h = tt
 if-some (Some x) h = h x refl
 
-pub among-at : (x : ℕ) (xs : List ℕ) (i : ℕ) → i < length xs → is_among x (drop i xs) ≡ (eqb x (get_or xs i 0) || is_among x (drop (i + 1) xs))
+pub among-at : (x : ℕ) (xs : List ℕ) (i : ℕ) → i < length xs
+    → is_among x (drop i xs) ≡ (eqb x (get_or xs i 0) || is_among x (drop (i + 1) xs))
 among-at x xs i h = ap (is_among x) (drop_more xs i 0 h)
 
 pub among-here : (x : ℕ) (xs : List ℕ) (i : ℕ) → i < length xs → eqb x (get_or xs i 0) ≡ true → is_among x (drop i xs) ≡ true
 among-here x xs i h e = among-at x xs i h ∙ ap (λ b. b || is_among x (drop (i + 1) xs)) e
 
-pub among-later : (x : ℕ) (xs : List ℕ) (i : ℕ) → i < length xs → eqb x (get_or xs i 0) ≡ false → is_among x (drop i xs) ≡ is_among x (drop (i + 1) xs)
+pub among-later : (x : ℕ) (xs : List ℕ) (i : ℕ) → i < length xs → eqb x (get_or xs i 0) ≡ false
+    → is_among x (drop i xs) ≡ is_among x (drop (i + 1) xs)
 among-later x xs i h e = among-at x xs i h ∙ ap (λ b. b || is_among x (drop (i + 1) xs)) e
 
 -- a page is used at its last place
@@ -38,7 +40,8 @@ pub used-by : (b : Bool) (x : ℕ) (ys : List ℕ) → length (cond b (x ∷ ys)
 used-by true x ys = omega arith
 used-by false x ys = omega arith
 
-pub used-cons : (set : FinMap nat_cmp Entry) (x : ℕ) (xs : List ℕ) → length (used set (x ∷ xs)) ≡ cond (has_entry (get set x) && not (is_among x xs)) 1 0 + length (used set xs)
+pub used-cons : (set : FinMap nat_cmp Entry) (x : ℕ) (xs : List ℕ)
+    → length (used set (x ∷ xs)) ≡ cond (has_entry (get set x) && not (is_among x xs)) 1 0 + length (used set xs)
 used-cons set x xs = used-by (has_entry (get set x) && not (is_among x xs)) x (used set xs)
 
 one-few : (b : Bool) → cond {A = ℕ} b 1 0 ≤ 1
@@ -52,14 +55,18 @@ used-few set (x ∷ xs) =
     let e = used-cons set x xs in let rest = used-few set xs in let one = one-few (has_entry (get set x) && not (is_among x xs)) in
     omega (arith, e, rest, one)
 
-pub used-at : (set : FinMap nat_cmp Entry) (xs : List ℕ) (i : ℕ) → i < length xs → length (used set (drop i xs)) ≡ cond (is_last_use set xs i) 1 0 + length (used set (drop (i + 1) xs))
+pub used-at : (set : FinMap nat_cmp Entry) (xs : List ℕ) (i : ℕ) → i < length xs
+    → length (used set (drop i xs)) ≡ cond (is_last_use set xs i) 1 0 + length (used set (drop (i + 1) xs))
 used-at set xs i h = ap (λ ys. length (used set ys)) (drop_more xs i 0 h) ∙ used-cons set (get_or xs i 0) (drop (i + 1) xs)
 
-pub used-here : (set : FinMap nat_cmp Entry) (xs : List ℕ) (i : ℕ) → i < length xs → is_last_use set xs i ≡ true → length (used set (drop i xs)) ≡ 1 + length (used set (drop (i + 1) xs))
+pub used-here : (set : FinMap nat_cmp Entry) (xs : List ℕ) (i : ℕ) → i < length xs → is_last_use set xs i ≡ true
+    → length (used set (drop i xs)) ≡ 1 + length (used set (drop (i + 1) xs))
 used-here set xs i h e = used-at set xs i h ∙ ap (λ b. cond b 1 0 + length (used set (drop (i + 1) xs))) e
 
-pub used-later : (set : FinMap nat_cmp Entry) (xs : List ℕ) (i : ℕ) → i < length xs → is_last_use set xs i ≡ false → length (used set (drop i xs)) ≡ length (used set (drop (i + 1) xs))
-used-later set xs i h e = used-at set xs i h ∙ ap (λ b. cond b 1 0 + length (used set (drop (i + 1) xs))) e ∙ zero-add (length (used set (drop (i + 1) xs)))
+pub used-later : (set : FinMap nat_cmp Entry) (xs : List ℕ) (i : ℕ) → i < length xs → is_last_use set xs i ≡ false
+    → length (used set (drop i xs)) ≡ length (used set (drop (i + 1) xs))
+used-later set xs i h e =
+    used-at set xs i h ∙ ap (λ b. cond b 1 0 + length (used set (drop (i + 1) xs))) e ∙ zero-add (length (used set (drop (i + 1) xs)))
 
 -- ---- frames that are no longer write-protected
 
@@ -74,12 +81,15 @@ among-append x (z ∷ xs) y h e =
       | inr n ↦ among-append x xs y (sym (ap (λ b. b || is_among x (xs ++ y ∷ [])) n.0) ∙ h) (sym (ap (λ b. b || is_among x xs) n.0) ∙ e)
     ]
 
-pub unprotected-more : (xs : List ℕ) (i : ℕ) (old new : List ℕ) → i < length xs → ArePart new old → is_among (get_or xs i 0) new ≡ false → ((x : ℕ) → is_among x (take i xs) ≡ true → is_among x old ≡ false) → (x : ℕ) → is_among x (take (i + 1) xs) ≡ true → is_among x new ≡ false
+pub unprotected-more : (xs : List ℕ) (i : ℕ) (old new : List ℕ) → i < length xs → ArePart new old → is_among (get_or xs i 0) new ≡ false
+    → ((x : ℕ) → is_among x (take i xs) ≡ true → is_among x old ≡ false) → (x : ℕ) → is_among x (take (i + 1) xs) ≡ true
+    → is_among x new ≡ false
 unprotected-more xs i old new l part here before x h =
     elim (cases_Bool (is_among x (take i xs))) [
       | inl t ↦ part-false x new old part (before x t)
       | inr n ↦
-          let e : x ≡ get_or xs i 0 = among-append x (take i xs) (get_or xs i 0) (sym (ap (is_among x) (rw add-one (take-suc xs i 0 l))) ∙ h) n in
+          let e : x ≡ get_or xs i 0 =
+          among-append x (take i xs) (get_or xs i 0) (sym (ap (is_among x) (rw add-one (take-suc xs i 0 l))) ∙ h) n in
           subst (λ y. is_among y new ≡ false) (sym e) here
     ]
 
@@ -95,17 +105,21 @@ not-both x (z ∷ xs) y e =
           (ap (λ b. b || is_among x xs) n.0 ∙ r.0, r.1)
     ]
 
-pub read_from-less : (xs : List ℕ) (i : ℕ) (first old new : ℕ → Bool) → i < length xs → ((x : ℕ) → (x ≡ get_or xs i 0 → ⊥) → new x ≡ old x) → ((x : ℕ) → is_among x (take i xs) ≡ false → old x ≡ first x) → (x : ℕ) → is_among x (take (i + 1) xs) ≡ false → new x ≡ first x
+pub read_from-less : (xs : List ℕ) (i : ℕ) (first old new : ℕ → Bool) → i < length xs → ((x : ℕ) → (x ≡ get_or xs i 0 → ⊥) → new x ≡ old x)
+    → ((x : ℕ) → is_among x (take i xs) ≡ false → old x ≡ first x) → (x : ℕ) → is_among x (take (i + 1) xs) ≡ false → new x ≡ first x
 read_from-less xs i first old new l here before x h =
     let b = not-both x (take i xs) (get_or xs i 0) (sym (ap (is_among x) (rw add-one (take-suc xs i 0 l))) ∙ h) in
     here x b.1 ∙ before x b.0
 
-pub read_from-more : (xs : List ℕ) (i : ℕ) (old new : ℕ → Bool) → i < length xs → (get_or xs i 0 < 16384 → new (get_or xs i 0) ≡ true) → ((x : ℕ) → old x ≡ true → new x ≡ true) → ((x : ℕ) → is_among x (take i xs) ≡ true → x < 16384 → old x ≡ true) → (x : ℕ) → is_among x (take (i + 1) xs) ≡ true → x < 16384 → new x ≡ true
+pub read_from-more : (xs : List ℕ) (i : ℕ) (old new : ℕ → Bool) → i < length xs → (get_or xs i 0 < 16384 → new (get_or xs i 0) ≡ true)
+    → ((x : ℕ) → old x ≡ true → new x ≡ true) → ((x : ℕ) → is_among x (take i xs) ≡ true → x < 16384 → old x ≡ true) → (x : ℕ)
+    → is_among x (take (i + 1) xs) ≡ true → x < 16384 → new x ≡ true
 read_from-more xs i old new l here stays before x h low =
     elim (cases_Bool (is_among x (take i xs))) [
       | inl t ↦ stays x (before x t low)
       | inr n ↦
-          let e : x ≡ get_or xs i 0 = among-append x (take i xs) (get_or xs i 0) (sym (ap (is_among x) (rw add-one (take-suc xs i 0 l))) ∙ h) n in
+          let e : x ≡ get_or xs i 0 =
+          among-append x (take i xs) (get_or xs i 0) (sym (ap (is_among x) (rw add-one (take-suc xs i 0 l))) ∙ h) n in
           let low' : get_or xs i 0 < 16384 = subst (λ y. y < 16384) e low in
           subst (λ y. new y ≡ true) (sym e) (here low')
     ]

@@ -26,10 +26,12 @@ entry_others s fetch page at access None q n = get_with_other s.set page (decide
 entry_others s fetch page at access (Some entry) q n =
     ap (λ (set : FinMap nat_cmp Entry). get set q) (barred_set (is_barred s.mode fetch access.user page entry.frame) s)
 
-page_others : (s : Space) (fetch : Bool) (page at : ℕ) (access : Access) (q : ℕ) → q ≢ page → get (page_uses s fetch page at access).1.set q ≡ get s.set q
+page_others : (s : Space) (fetch : Bool) (page at : ℕ) (access : Access) (q : ℕ) → q ≢ page
+    → get (page_uses s fetch page at access).1.set q ≡ get s.set q
 unfolding page_uses
 page_others s fetch page at access q n =
-    entry_others (record s { pages = s.pages + 1; visited = s.visited ++ page ∷ [] }) fetch page at access (usable (get s.set page) access s.wp) q n
+    entry_others (record s { pages = s.pages + 1; visited = s.visited ++ page ∷ [] }) fetch page at access
+    (usable (get s.set page) access s.wp) q n
 
 ready_set : (met : Touch) (s : Space) (at len : ℕ) → (go_on met s (made_ready at len false)).1.set ≡ s.set
 ready_set Ready s at len = refl
@@ -44,8 +46,10 @@ fetch_others s at len user q n =
     ap (λ (set : FinMap nat_cmp Entry). get set q) (ready_set used.0 used.1 at len) ∙ page_others (unready s) true (at / 4096) at access q n
 
 -- the same of what a step did so far, before the fetch and after it
-pub others_after : (kept : List ℕ → FinMap nat_cmp Entry) (ram ram2 : List ℕ) (before after : StepState) (p p2 : Progress) (at len : ℕ) (user : Bool) (met : Touch)
-    → before ≡ state_by before.guard p → fetches (space_at kept ram before) at len user ≡ (met, space_at kept ram2 after) → after ≡ state_by after.guard p2
+pub others_after : (kept : List ℕ → FinMap nat_cmp Entry) (ram ram2 : List ℕ) (before after : StepState) (p p2 : Progress) (at len : ℕ)
+    (user : Bool) (met : Touch)
+    → before ≡ state_by before.guard p → fetches (space_at kept ram before) at len user ≡ (met, space_at kept ram2 after)
+    → after ≡ state_by after.guard p2
     → (page : ℕ) → page ≢ at / 4096 → get (space_in kept ram2 p2).set page ≡ get (space_in kept ram p).set page
 others_after kept ram ram2 before after p p2 at len user met is fetched is2 page n =
     sym (ap (λ (state : StepState). get (changed (kept ram2) state.changes) page) is2)

@@ -29,19 +29,23 @@ short bytes n e = rw e (omega arith)
 
 laid : (text : Option Text) (first count frames : ℕ) → IsPlain text first count → first + count ≤ frames → IsLaid text frames
 laid None first count frames h l = absurd h
-laid (Some text) first count frames h l = ((let a = h.0 in let b = h.1 in omega (arith, a, b, l)), short text.bytes.now (4096 * text.count) h.2)
+laid (Some text) first count frames h l =
+    ((let a = h.0 in let b = h.1 in omega (arith, a, b, l)), short text.bytes.now (4096 * text.count) h.2)
 
-mode_same : (a b : Option Text) (own other : Own) (first count : ℕ) → IsPlain a first count → IsPlain b first count → own ≡ other → mode_by a own ≡ mode_by b other
+mode_same : (a b : Option Text) (own other : Own) (first count : ℕ) → IsPlain a first count → IsPlain b first count → own ≡ other
+    → mode_by a own ≡ mode_by b other
 mode_same None b own other first count h k e = absurd h
 mode_same (Some text) None own other first count h k e = absurd k
 mode_same (Some text) (Some next) own other first count h k e = rw (h.0 ∙ sym k.0, h.1 ∙ sym k.1, e) refl
 
 laid_same : (a b : Option Text) (first count frames : ℕ) → IsPlain a first count → IsPlain b first count → IsLaid a frames → IsLaid b frames
 laid_same None b first count frames h k l = absurd h
-laid_same (Some text) b first count frames h k l = laid b first count frames k (let x = h.0 in let y = h.1 in let z = l.0 in omega (arith, x, y, z))
+laid_same (Some text) b first count frames h k l =
+    laid b first count frames k (let x = h.0 in let y = h.1 in let z = l.0 in omega (arith, x, y, z))
 
 -- what is sound under one guard of these frames is so under each
-pub going_after : (kept : List ℕ → FinMap nat_cmp Entry) (floor : ℕ) (stands : List ℕ → Type 0) (ram : List ℕ) (state : StepState) (p : Progress)
+pub going_after : (kept : List ℕ → FinMap nat_cmp Entry) (floor : ℕ) (stands : List ℕ → Type 0) (ram : List ℕ)
+    (state : StepState) (p : Progress)
     → IsSound kept floor stands ram state → state ≡ state_by state.guard p → Guards state.guard p → IsGoing kept floor stands ram p
 going_after kept floor stands ram state p sound is by guard h =
     let s : IsSound kept floor stands ram (state_by state.guard p) = subst (λ (t : StepState). IsSound kept floor stands ram t) is sound in
@@ -69,14 +73,17 @@ going_after kept floor stands ram state p sound is by guard h =
 
 -- what a fetch made ready has entries
 pub found_after : (kept : List ℕ → FinMap nat_cmp Entry) (ram : List ℕ) (state : StepState) (p : Progress) (at len : ℕ) (met : Touch)
-    → state ≡ state_by state.guard p → Readied (space_at kept ram state) at len false met → met ≡ Ready → HasRange (space_in kept ram p) at len
+    → state ≡ state_by state.guard p → Readied (space_at kept ram state) at len false met → met ≡ Ready
+    → HasRange (space_in kept ram p) at len
 found_after kept ram state p at len met is ready r byte low high =
     let reach : IsReach (space_at kept ram state) at len false = subst (Readied (space_at kept ram state) at len false) r ready in
     subst (λ (t : StepState). IsSome (get (changed (kept ram) t.changes) (byte / 4096))) is (reach.found byte low high)
 
 -- nothing is used yet
-pub going_first : (kept : List ℕ → FinMap nat_cmp Entry) (floor : ℕ) (stands : List ℕ → Type 0) (ram : List ℕ) (p : Progress) (control : Control) (begins : p.state ≡ begun control p.state.guard)
-    → 4096 * control.frames ≤ length ram → 4096 * control.frames ≤ floor → p.first + p.count ≤ control.frames → ∥ stands ram ∥₁ → AreWithin control.frames (kept ram)
+pub going_first : (kept : List ℕ → FinMap nat_cmp Entry) (floor : ℕ) (stands : List ℕ → Type 0) (ram : List ℕ) (p : Progress)
+    (control : Control) (begins : p.state ≡ begun control p.state.guard)
+    → 4096 * control.frames ≤ length ram → 4096 * control.frames ≤ floor → p.first + p.count ≤ control.frames → ∥ stands ram ∥₁
+    → AreWithin control.frames (kept ram)
     → IsGoing kept floor stands ram p
 going_first kept floor stands ram p control begins room low among s w guard h =
     subst (λ (state : StepState). IsSound kept floor stands ram (record state { guard = guard })) (sym begins) (record {
@@ -100,23 +107,30 @@ going_first kept floor stands ram p control begins room low among s w guard h =
       earlier_reached = λ at l k. absurd (omega (arith, l, k));
     })
 
-none_within : (found : Option Entry) (page frames : ℕ) → found ≡ None → ForSome found (λ entry. (entry.page ≡ page) × (entry.frame < frames))
+none_within : (found : Option Entry) (page frames : ℕ) → found ≡ None
+    → ForSome found (λ entry. (entry.page ≡ page) × (entry.frame < frames))
 none_within found page frames e = λ entry is. absurd (none-some entry (sym e ∙ is))
 
 -- what is left of a set at the end of a step is within the frames
-pub left_within : (result : Option ℕ) (left set : FinMap nat_cmp Entry) (frames : ℕ) → MatchOption result (left ≡ empty) (λ n. left ≡ set) → AreWithin frames set → AreWithin frames left
-left_within None left set frames e w = λ page. none_within (get left page) page frames (ap (λ (s : FinMap nat_cmp Entry). get s page) e ∙ get-empty nat_cmp page)
+pub left_within : (result : Option ℕ) (left set : FinMap nat_cmp Entry) (frames : ℕ) → MatchOption result (left ≡ empty) (λ n. left ≡ set)
+    → AreWithin frames set → AreWithin frames left
+left_within None left set frames e w =
+    λ page. none_within (get left page) page frames (ap (λ (s : FinMap nat_cmp Entry). get s page) e ∙ get-empty nat_cmp page)
 left_within (Some n) left set frames e w = subst (λ s. AreWithin frames s) (sym e) w
 
 -- a pool of which frames moved still lies after the guest's frames
-pub room_left : (p p' : Pool) (m m' fs fs' : List ℕ) (frames : ℕ) → Moves p p' m m' fs fs' → 4096 * frames ≤ length m → 4096 * frames ≤ 4096 * p.base → (4096 * frames ≤ length m') × (4096 * frames ≤ 4096 * p'.base)
-room_left p p' m m' fs fs' frames v room low = let size = v.size in let same = v.same.0 in (omega (arith, size, room), omega (arith, same, low))
+pub room_left : (p p' : Pool) (m m' fs fs' : List ℕ) (frames : ℕ) → Moves p p' m m' fs fs' → 4096 * frames ≤ length m
+    → 4096 * frames ≤ 4096 * p.base → (4096 * frames ≤ length m') × (4096 * frames ≤ 4096 * p'.base)
+room_left p p' m m' fs fs' frames v room low = let size =
+    v.size in let same = v.same.0 in (omega (arith, size, room), omega (arith, same, low))
 
-pub room_first : (p : Pool) (m fs : List ℕ) (frames : ℕ) → Owns p m fs → frames ≤ p.base → (4096 * frames ≤ length m) × (4096 * frames ≤ 4096 * p.base)
+pub room_first : (p : Pool) (m fs : List ℕ) (frames : ℕ) → Owns p m fs → frames ≤ p.base → (4096 * frames ≤ length m)
+    × (4096 * frames ≤ 4096 * p.base)
 room_first p m fs frames o low = let room = o.stands.room in (omega (arith, room, low), omega (arith, low))
 
 -- bytes that reach a second page
-pub own_two : (s t u : Space) (at len left : ℕ) → left ≡ left_in_page at → left < len → t ≡ record s { mode = with_front s.mode (place s at) left }
+pub own_two : (s t u : Space) (at len left : ℕ) → left ≡ left_in_page at → left < len
+    → t ≡ record s { mode = with_front s.mode (place s at) left }
     → u ≡ record t { mode = with_back t.mode (place t (at + left)) (len - left) } → u ≡ owning s at len
 unfolding place
 own_two s t u at len left e l a b =

@@ -14,7 +14,8 @@ rest-refl g a m = record {
   roots = λ view. refl;
 }
 
-pub rest-trans : {S : Type 0} (g : shadows.Ghosts S) (a b c : S) (m m1 m2 : List ℕ) → KeepsRest g a b m m1 → KeepsRest g b c m1 m2 → KeepsRest g a c m m2
+pub rest-trans : {S : Type 0} (g : shadows.Ghosts S) (a b c : S) (m m1 m2 : List ℕ) → KeepsRest g a b m m1 → KeepsRest g b c m1 m2
+    → KeepsRest g a c m m2
 rest-trans g a b c m m1 m2 h k = record {
   write_protected = k.write_protected ∙ h.write_protected;
   read_from = λ frame. k.read_from frame ∙ h.read_from frame;

@@ -28,14 +28,17 @@ guest-none frame n =
       | inr t ↦ absurd (n (let h = t.1 in omega (arith, h)))
     ]
 
-pub one-read_from : (frame : ℕ) (old new : ℕ → Bool) → frame < 16384 → ((f : ℕ) → new f ≡ (old f || eqb f frame)) → (f : ℕ) → new f ≡ (old f || is_among f (guest_frames (frame ∷ [])))
+pub one-read_from : (frame : ℕ) (old new : ℕ → Bool) → frame < 16384 → ((f : ℕ) → new f ≡ (old f || eqb f frame)) → (f : ℕ)
+    → new f ≡ (old f || is_among f (guest_frames (frame ∷ [])))
 one-read_from frame old new l h f =
     h f ∙ ap (λ b. old f || b) (sym (or-false (eqb f frame))) ∙ ap (λ (fs : List ℕ). old f || is_among f fs) (sym (guest-one frame l))
 
-pub none-read_from : (frame : ℕ) (old : ℕ → Bool) → (frame < 16384 → ⊥) → (f : ℕ) → old f ≡ (old f || is_among f (guest_frames (frame ∷ [])))
+pub none-read_from : (frame : ℕ) (old : ℕ → Bool) → (frame < 16384 → ⊥) → (f : ℕ)
+    → old f ≡ (old f || is_among f (guest_frames (frame ∷ [])))
 none-read_from frame old n f = sym (or-false (old f)) ∙ ap (λ (fs : List ℕ). old f || is_among f fs) (sym (guest-none frame n))
 
-pub one-lose : (frame : ℕ) (xs ys : List OtherRoot) → frame < 16384 → LoseWrites (frame ∷ []) xs ys → LoseWrites (guest_frames (frame ∷ [])) xs ys
+pub one-lose : (frame : ℕ) (xs ys : List OtherRoot) → frame < 16384 → LoseWrites (frame ∷ []) xs ys
+    → LoseWrites (guest_frames (frame ∷ [])) xs ys
 one-lose frame xs ys l h = subst (λ (fs : List ℕ). LoseWrites fs xs ys) (sym (guest-one frame l)) h
 
 pub none-lose : (frame : ℕ) (xs : List OtherRoot) → (frame < 16384 → ⊥) → LoseWrites (guest_frames (frame ∷ [])) xs xs
@@ -54,11 +57,13 @@ first-spared xs = subst (λ (ys : List OtherRoot). AreSame ys xs) (sym (none-wri
 
 -- ---- one frame more is noted
 
-pub guest-more : (fs : List ℕ) (i : ℕ) → i < length fs → guest_frames (take (i + 1) fs) ≡ guest_frames (take i fs) ++ guest_frames (get_or fs i 0 ∷ [])
+pub guest-more : (fs : List ℕ) (i : ℕ) → i < length fs → guest_frames (take (i + 1) fs) ≡ guest_frames (take i fs)
+    ++ guest_frames (get_or fs i 0 ∷ [])
 guest-more fs i l = ap guest_frames (take_more fs i 0 l) ∙ filter-append (λ frame. not (leb 16384 frame)) (take i fs) (get_or fs i 0 ∷ [])
 
 pub more-read_from : (fs : List ℕ) (i : ℕ) (first old new : ℕ → Bool) → i < length fs
-    → ((f : ℕ) → new f ≡ (old f || is_among f (guest_frames (get_or fs i 0 ∷ [])))) → ((f : ℕ) → old f ≡ (first f || is_among f (guest_frames (take i fs))))
+    → ((f : ℕ) → new f ≡ (old f || is_among f (guest_frames (get_or fs i 0 ∷ []))))
+    → ((f : ℕ) → old f ≡ (first f || is_among f (guest_frames (take i fs))))
     → (f : ℕ) → new f ≡ (first f || is_among f (guest_frames (take (i + 1) fs)))
 more-read_from fs i first old new l here before f =
     here f
@@ -67,10 +72,12 @@ more-read_from fs i first old new l here before f =
     ∙ ap (λ b. first f || b) (sym (among-append f (guest_frames (take i fs)) (guest_frames (get_or fs i 0 ∷ []))))
     ∙ ap (λ (gs : List ℕ). first f || is_among f gs) (sym (guest-more fs i l))
 
-pub more-lose : (fs : List ℕ) (i : ℕ) (xs ys zs : List OtherRoot) → i < length fs → LoseWrites (guest_frames (take i fs)) xs ys → LoseWrites (guest_frames (get_or fs i 0 ∷ [])) ys zs
+pub more-lose : (fs : List ℕ) (i : ℕ) (xs ys zs : List OtherRoot) → i < length fs → LoseWrites (guest_frames (take i fs)) xs ys
+    → LoseWrites (guest_frames (get_or fs i 0 ∷ [])) ys zs
     → LoseWrites (guest_frames (take (i + 1) fs)) xs zs
 more-lose fs i xs ys zs l h k =
-    subst (λ (gs : List ℕ). LoseWrites gs xs zs) (sym (guest-more fs i l)) (lose-more (guest_frames (take i fs)) (guest_frames (get_or fs i 0 ∷ [])) xs ys zs h k)
+    subst (λ (gs : List ℕ). LoseWrites gs xs zs) (sym (guest-more fs i l))
+    (lose-more (guest_frames (take i fs)) (guest_frames (get_or fs i 0 ∷ [])) xs ys zs h k)
 
 -- ---- one frame more is written
 
@@ -88,11 +95,14 @@ joined false true c h = refl
 joined false false true h = h refl
 joined false false false h = refl
 
-any-more : (test : ℕ → Bool) (fs : List ℕ) (i : ℕ) → i < length fs → list_any test (take (i + 1) fs) ≡ (list_any test (take i fs) || test (get_or fs i 0))
+any-more : (test : ℕ → Bool) (fs : List ℕ) (i : ℕ) → i < length fs
+    → list_any test (take (i + 1) fs) ≡ (list_any test (take i fs) || test (get_or fs i 0))
 any-more test fs i l =
-    ap (list_any test) (take_more fs i 0 l) ∙ any-append test (take i fs) (get_or fs i 0 ∷ []) ∙ ap (λ b. list_any test (take i fs) || b) (or-false (test (get_or fs i 0)))
+    ap (list_any test) (take_more fs i 0 l) ∙ any-append test (take i fs) (get_or fs i 0 ∷ [])
+    ∙ ap (λ b. list_any test (take i fs) || b) (or-false (test (get_or fs i 0)))
 
-stale-now : (a : Bool) (fs : List ℕ) (first old : ℕ → Bool) (x : ℕ) → (old x ≡ true → first x ≡ true) → (is_among x fs ≡ false → old x ≡ first x) → ((a || list_any first fs) || old x) ≡ (a || (list_any first fs || first x))
+stale-now : (a : Bool) (fs : List ℕ) (first old : ℕ → Bool) (x : ℕ) → (old x ≡ true → first x ≡ true)
+    → (is_among x fs ≡ false → old x ≡ first x) → ((a || list_any first fs) || old x) ≡ (a || (list_any first fs || first x))
 stale-now a fs first old x less same =
     elim (cases_Bool (is_among x fs)) [
       | inl t ↦
@@ -102,27 +112,35 @@ stale-now a fs first old x less same =
       | inr n ↦ or_assoc a (list_any first fs) (old x) ∙ ap (λ b. a || (list_any first fs || b)) (same n)
     ]
 
-pub more-stale : (fs : List ℕ) (i : ℕ) (first old : ℕ → Bool) (a b c : Bool) → i < length fs → b ≡ (a || list_any first (take i fs)) → c ≡ (b || old (get_or fs i 0))
-    → ((f : ℕ) → old f ≡ true → first f ≡ true) → ((f : ℕ) → is_among f (take i fs) ≡ false → old f ≡ first f) → c ≡ (a || list_any first (take (i + 1) fs))
+pub more-stale : (fs : List ℕ) (i : ℕ) (first old : ℕ → Bool) (a b c : Bool) → i < length fs → b ≡ (a || list_any first (take i fs))
+    → c ≡ (b || old (get_or fs i 0))
+    → ((f : ℕ) → old f ≡ true → first f ≡ true) → ((f : ℕ) → is_among f (take i fs) ≡ false → old f ≡ first f)
+    → c ≡ (a || list_any first (take (i + 1) fs))
 more-stale fs i first old a b c l before here less same =
     let x : ℕ = get_or fs i 0 in
-    here ∙ ap (λ y. y || old x) before ∙ stale-now a (take i fs) first old x (less x) (same x) ∙ ap (λ y. a || y) (sym (any-more first fs i l))
+    here ∙ ap (λ y. y || old x) before ∙ stale-now a (take i fs) first old x (less x) (same x)
+    ∙ ap (λ y. a || y) (sym (any-more first fs i l))
 
-pub less-read_from : (x : ℕ) (first old new : ℕ → Bool) → ((f : ℕ) → (f ≡ x → ⊥) → new f ≡ old f) → (new x ≡ true → old x ≡ true) → ((f : ℕ) → old f ≡ true → first f ≡ true) → (f : ℕ) → new f ≡ true → first f ≡ true
+pub less-read_from : (x : ℕ) (first old new : ℕ → Bool) → ((f : ℕ) → (f ≡ x → ⊥) → new f ≡ old f) → (new x ≡ true → old x ≡ true)
+    → ((f : ℕ) → old f ≡ true → first f ≡ true) → (f : ℕ) → new f ≡ true → first f ≡ true
 less-read_from x first old new others here before f h =
     elim (eqb_tells f x) [
       | inl t ↦ before f (ap old t.1 ∙ here (sym (ap new t.1) ∙ h))
       | inr t ↦ before f (sym (others f t.1) ∙ h)
     ]
 
-pub more-spared : (fs : List ℕ) (i : ℕ) (xs ys zs : List OtherRoot) → i < length fs → AreSame (all_spared (take i fs) xs) ys → AreSame (spared (get_or fs i 0) ys) zs → AreSame (all_spared (take (i + 1) fs) xs) zs
+pub more-spared : (fs : List ℕ) (i : ℕ) (xs ys zs : List OtherRoot) → i < length fs → AreSame (all_spared (take i fs) xs) ys
+    → AreSame (spared (get_or fs i 0) ys) zs → AreSame (all_spared (take (i + 1) fs) xs) zs
 more-spared fs i xs ys zs l h k =
     let x : ℕ = get_or fs i 0 in
-    subst (λ (ws : List OtherRoot). AreSame ws zs) (spared-more (take i fs) x xs ∙ ap (λ (gs : List ℕ). all_spared gs xs) (sym (take_more fs i 0 l)))
+    subst (λ (ws : List OtherRoot). AreSame ws zs)
+    (spared-more (take i fs) x xs ∙ ap (λ (gs : List ℕ). all_spared gs xs) (sym (take_more fs i 0 l)))
     (same-trans (spared x (all_spared (take i fs) xs)) (spared x ys) zs (spared-same x (all_spared (take i fs) xs) ys h) k)
 
 -- ---- first noted, then reported, then filled
 
-pub all-told : (wrote tables : List ℕ) (xs ys zs us : List OtherRoot) → LoseWrites (guest_frames tables) xs ys → AreSame (all_spared wrote ys) zs → AreSame zs us → LoseWrites (guest_frames tables) (all_spared wrote xs) us
+pub all-told : (wrote tables : List ℕ) (xs ys zs us : List OtherRoot) → LoseWrites (guest_frames tables) xs ys
+    → AreSame (all_spared wrote ys) zs → AreSame zs us → LoseWrites (guest_frames tables) (all_spared wrote xs) us
 all-told wrote tables xs ys zs us h k s =
-    lose-same (guest_frames tables) (all_spared wrote xs) (all_spared wrote ys) us (spared-lose (guest_frames tables) wrote xs ys h) (same-trans (all_spared wrote ys) zs us k s)
+    lose-same (guest_frames tables) (all_spared wrote xs) (all_spared wrote ys) us (spared-lose (guest_frames tables) wrote xs ys h)
+    (same-trans (all_spared wrote ys) zs us k s)

@@ -19,7 +19,8 @@ module _ {S : Type 0} (g : shadows.Ghosts S) where
     -- and in which view, with which rights
     pub filled : IfSome result (λ n. Settles (g.slots old m) (g.slots new m') did.set pages side did.wp (g.write_protected new))
     -- the frames that the step read as tables are noted, but for those that it wrote
-    pub read_from : IsSome result → (frame : ℕ) → is_among frame did.wrote ≡ false → g.read_from new frame ≡ read_by (g.read_from old) did.tables frame
+    pub read_from : IsSome result → (frame : ℕ) → is_among frame did.wrote ≡ false
+        → g.read_from new frame ≡ read_by (g.read_from old) did.tables frame
     pub noted_only : (frame : ℕ) → g.read_from new frame ≡ true → read_by (g.read_from old) did.tables frame ≡ true
     -- the present tables are marked where the step wrote one of them
     pub stale : MatchOption result (g.stale new ≡ true → g.stale old ≡ true)

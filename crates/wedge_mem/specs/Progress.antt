@@ -59,7 +59,11 @@ space_in kept ram p =
       tables = p.state.tables;
       wrote = p.state.wrote;
       ready = record { start = p.state.ready.start; len = p.state.ready.len; write = p.state.ready.write };
-      earlier = record { start = p.state.earlier.start; len = p.state.earlier.len; set = changed (kept ram) (take p.state.earlier.count p.state.changes) };
+      earlier = record {
+        start = p.state.earlier.start;
+        len = p.state.earlier.len;
+        set = changed (kept ram) (take p.state.earlier.count p.state.changes);
+      };
     }
 
 -- as a step begins under a monitor's rules over those frames, of whose text no original bytes are laid over memory
@@ -79,8 +83,12 @@ left_in_page at = 4096 - at % 4096
 abbrev pub owning : Space → ℕ → ℕ → Space
 owning s at len =
     if nat_le len (left_in_page at) then record s { mode = with_front s.mode (place s at) len } else
-    record s { mode = with_back (with_front s.mode (place s at) (left_in_page at)) (place s (at + left_in_page at)) (len - left_in_page at) }
+    record s {
+      mode = with_back (with_front s.mode (place s at) (left_in_page at)) (place s (at + left_in_page at))
+          (len - left_in_page at);
+    }
 
 -- the same frames, registers and own bytes
 abbrev pub IsTheSame : (before after : Progress) → Type 0
-IsTheSame before after = (after.state.control ≡ before.state.control) × (after.first ≡ before.first) × (after.count ≡ before.count) × (after.state.guard.own ≡ before.state.guard.own)
+IsTheSame before after = (after.state.control ≡ before.state.control) × (after.first ≡ before.first) × (after.count ≡ before.count)
+    × (after.state.guard.own ≡ before.state.guard.own)

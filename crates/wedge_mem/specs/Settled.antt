@@ -54,12 +54,14 @@ FillsLast old new set page later side wp write_protected =
 
 -- Each of these pages is held on that side with its entry of the set, or not at all where it has none. Of the others the
 -- same is kept, with no right that it hadn't.
-pub record Settles (old new : ℕ → Option Slot) (set : FinMap nat_cmp Entry) (pages : List ℕ) (side : Side) (wp : Bool) (write_protected : List ℕ) : Type 0 where
+pub record Settles (old new : ℕ → Option Slot) (set : FinMap nat_cmp Entry) (pages : List ℕ) (side : Side) (wp : Bool)
+    (write_protected : List ℕ) : Type 0 where
   pub through : (page : ℕ) → page < 2 ^ 20 → is_among page pages ≡ true → new page ≡ filled_by side wp write_protected (get set page)
   pub others : (page : ℕ) → page < 2 ^ 20 → is_among page pages ≡ false → IsWithin (new page) (old page)
 
 -- The same, where what is kept of the others is what was.
-pub record Fills (old new : ℕ → Option Slot) (set : FinMap nat_cmp Entry) (pages : List ℕ) (side : Side) (wp : Bool) (write_protected : List ℕ) : Type 0 where
+pub record Fills (old new : ℕ → Option Slot) (set : FinMap nat_cmp Entry) (pages : List ℕ) (side : Side) (wp : Bool)
+    (write_protected : List ℕ) : Type 0 where
   pub through : (page : ℕ) → page < 2 ^ 20 → is_among page pages ≡ true → new page ≡ filled_by side wp write_protected (get set page)
   pub others : (page : ℕ) → page < 2 ^ 20 → is_among page pages ≡ false → new page ≡ old page
 
@@ -80,7 +82,8 @@ is_due kept changes side wp page = is_among page (map page_of changes) || not (s
 abbrev pub refilled : (ℕ → Option Slot) → FinMap nat_cmp Entry → List Change → Side → Bool → List ℕ → List ℕ
 refilled kept set changes side wp [] = []
 refilled kept set changes side wp (page ∷ pages) =
-    if (has_entry (get set page) && not (is_among page pages)) && is_due kept changes side wp page then page ∷ refilled kept set changes side wp pages
+    if (has_entry (get set page) && not (is_among page pages)) && is_due kept changes side wp page
+    then page ∷ refilled kept set changes side wp pages
     else refilled kept set changes side wp pages
 
 -- what is kept lost the right to write to some of these frames, and nothing else changed
@@ -90,7 +93,8 @@ pub record LosesSome (frames : List ℕ) (old new : ℕ → Option Slot) : Type 
   pub loses : LosesWrites old new lost
 
 -- So many of the pages were filled, once what is kept had lost the right to write to some of the step's tables.
-pub record IsFillCount (old : ℕ → Option Slot) (set : FinMap nat_cmp Entry) (changes : List Change) (tables pages : List ℕ) (side : Side) (wp : Bool) (n : ℕ) : Type 0 where
+pub record IsFillCount (old : ℕ → Option Slot) (set : FinMap nat_cmp Entry) (changes : List Change) (tables pages : List ℕ) (side : Side)
+    (wp : Bool) (n : ℕ) : Type 0 where
   pub lost : List ℕ
   pub part : ArePart lost (guest_frames tables)
   pub exact : n ≡ length (refilled (λ page. barred lost (old page)) set changes side wp pages)

@@ -17,7 +17,13 @@ pub alone_from : (m : Setting) (b : State) (lost : Lost) (w : Worked) (board : B
     → IsLeft m new (dropping w.dropped s.set) lost → Alone m b lost w.seen new
 alone_from m b lost w board s new e cpu ram boards step left =
     let whole : Set = dropping w.dropped s.set in
-    let report : Report = record { items = items_at b.step (whats w.seen); completed = completed_by w.completed; pages = s.visited; tables = s.tables; wrote = s.wrote } in
+    let report : Report = record {
+      items = items_at b.step (whats w.seen);
+      completed = completed_by w.completed;
+      pages = s.visited;
+      tables = s.tables;
+      wrote = s.wrote;
+    } in
     record {
       report = report;
       whole = whole;

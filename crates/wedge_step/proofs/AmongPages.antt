@@ -35,11 +35,13 @@ changed_other set [] q h = refl
 changed_other set (c ∷ cs) q h =
     elim (eqb_tells q (page_of c)) [
       | inl e ↦ absurd (let f : true ≡ false = sym (ap (λ (b : Bool). b || is_among q (map page_of cs)) e.0) ∙ h in cc)
-      | inr n ↦ changed_other (with_entry set (page_of c) (entry_of c)) cs q (or_parts (q == page_of c) (is_among q (map page_of cs)) h).1 ∙ get_with_other set (page_of c) (entry_of c) q n.1
+      | inr n ↦ changed_other (with_entry set (page_of c) (entry_of c)) cs q (or_parts (q == page_of c) (is_among q (map page_of cs)) h).1
+          ∙ get_with_other set (page_of c) (entry_of c) q n.1
     ]
 
 -- each page that a step changed is one that it went through
-pub told_among : (visited : List ℕ) (changes : List Change) → AreToldIn visited changes → (q : ℕ) → is_among q (pages_of visited changes) ≡ true → is_among q visited ≡ true
+pub told_among : (visited : List ℕ) (changes : List Change) → AreToldIn visited changes → (q : ℕ)
+    → is_among q (pages_of visited changes) ≡ true → is_among q visited ≡ true
 told_among visited changes told q h = elim (among_split q visited (map page_of changes) h) [
   | inl a ↦ a
   | inr c ↦ told q c
@@ -50,7 +52,8 @@ among_first q [] ys h = absurd (let f : false ≡ true = h in cc)
 among_first q (x ∷ xs) ys h =
     elim (cases_Bool (q == x)) [
       | inl t ↦ ap (λ (b : Bool). b || is_among q (xs ++ ys)) t
-      | inr n ↦ ap (λ (b : Bool). (q == x) || b) (among_first q xs ys (sym (ap (λ (b : Bool). b || is_among q xs) n) ∙ h)) ∙ or_true (q == x)
+      | inr n ↦ ap (λ (b : Bool). (q == x) || b) (among_first q xs ys (sym (ap (λ (b : Bool). b || is_among q xs) n) ∙ h))
+          ∙ or_true (q == x)
     ]
 
 -- ---- how many have an entry
@@ -80,7 +83,8 @@ without_other z q (w ∷ ws) n h =
           ap (λ (b : Bool). is_among q (cond b ws (w ∷ without z ws))) f.0
           ∙ elim (cases_Bool (q == w)) [
             | inl t ↦ ap (λ (c : Bool). c || is_among q (without z ws)) t
-            | inr g ↦ ap (λ (c : Bool). (q == w) || c) (without_other z q ws n (sym (ap (λ (c : Bool). c || is_among q ws) g) ∙ h)) ∙ or_true (q == w)
+            | inr g ↦ ap (λ (c : Bool). (q == w) || c) (without_other z q ws n (sym (ap (λ (c : Bool). c || is_among q ws) g) ∙ h))
+                ∙ or_true (q == w)
           ]
     ]
 
@@ -94,7 +98,8 @@ none_more z xs n true false e r = r
 none_more z xs n false false e r = r
 none_more z xs n b true e r = absurd (let f : true ≡ false = e in cc)
 
-used_more : (set : FinMap nat_cmp Entry) (z : ℕ) (zs ws : List ℕ) → ((vs : List ℕ) → ((q : ℕ) → is_among q zs ≡ true → is_among q vs ≡ true) → length (used set zs) ≤ length vs)
+used_more : (set : FinMap nat_cmp Entry) (z : ℕ) (zs ws : List ℕ)
+    → ((vs : List ℕ) → ((q : ℕ) → is_among q zs ≡ true → is_among q vs ≡ true) → length (used set zs) ≤ length vs)
     → ((q : ℕ) → is_among q (z ∷ zs) ≡ true → is_among q ws ≡ true) → length (used set (z ∷ zs)) ≤ length ws
 used_more set z zs ws rest h =
     elim (cases_Bool (is_among z zs)) [
@@ -112,15 +117,18 @@ used_more set z zs ws rest h =
     here = h z (elim (eqb_tells z z) [ inl t ↦ ap (λ (b : Bool). b || is_among z zs) t.0 | inr n ↦ absurd (n.1 refl) ])
 
     other : (q : ℕ) → is_among q zs ≡ true → is_among z zs ≡ false → (q == z) ≡ false
-    other q a e = elim (eqb_tells q z) [ inl t ↦ absurd (let f : true ≡ false = sym a ∙ ap (λ (k : ℕ). is_among k zs) t.1 ∙ e in cc) | inr f ↦ f.0 ]
+    other q a e =
+        elim (eqb_tells q z) [ inl t ↦ absurd (let f : true ≡ false = sym a ∙ ap (λ (k : ℕ). is_among k zs) t.1 ∙ e in cc) | inr f ↦ f.0 ]
 
 -- no more than there are pages of which each is one
-pub used_within : (set : FinMap nat_cmp Entry) (zs ws : List ℕ) → ((q : ℕ) → is_among q zs ≡ true → is_among q ws ≡ true) → length (used set zs) ≤ length ws
+pub used_within : (set : FinMap nat_cmp Entry) (zs ws : List ℕ) → ((q : ℕ) → is_among q zs ≡ true → is_among q ws ≡ true)
+    → length (used set zs) ≤ length ws
 used_within set [] ws h = omega arith
 used_within set (z ∷ zs) ws h = used_more set z zs ws (used_within set zs) h
 
 -- the pages that a step went through or changed are those that it went through
-pub among_through : (visited : List ℕ) (changes : List Change) (pages : List ℕ) → AreToldIn visited changes → pages ≡ visited → (q : ℕ) → is_among q (pages_of visited changes) ≡ is_among q pages
+pub among_through : (visited : List ℕ) (changes : List Change) (pages : List ℕ) → AreToldIn visited changes → pages ≡ visited → (q : ℕ)
+    → is_among q (pages_of visited changes) ≡ is_among q pages
 among_through visited changes pages told same q =
     elim (cases_Bool (is_among q visited)) [
       | inl a ↦ among_first q visited (map page_of changes) a ∙ (sym a ∙ sym (ap (is_among q) same))
@@ -132,7 +140,8 @@ among_through visited changes pages told same q =
     ]
 
 -- and so are those that leave with an instruction
-pub leaving_through : (d : Dropped) (visited : List ℕ) (changes : List Change) (pages : List ℕ) → AreToldIn visited changes → pages ≡ visited → (q : ℕ) → leaving d (pages_of visited changes) q ≡ leaving d pages q
+pub leaving_through : (d : Dropped) (visited : List ℕ) (changes : List Change) (pages : List ℕ) → AreToldIn visited changes
+    → pages ≡ visited → (q : ℕ) → leaving d (pages_of visited changes) q ≡ leaving d pages q
 leaving_through dropped.Nothing visited changes pages told same q = refl
 leaving_through (dropped.Page gone) visited changes pages told same q = refl
 leaving_through (dropped.Dir index) visited changes pages told same q = refl

@@ -45,21 +45,26 @@ use Rattle.wedge_step.proofs.AmongPages.{among_contains, told_among, used_within
 
 -- ---- the pages that a step used may be shown
 
-open_used : (count : ℕ) (own : Own) (user : Bool) (page frame : ℕ) → may_use (Wedge 0x100 count own) user page frame ≡ true → may_use (rules_over count) (is_user (side_of user)) page frame ≡ true
+open_used : (count : ℕ) (own : Own) (user : Bool) (page frame : ℕ) → may_use (Wedge 0x100 count own) user page frame ≡ true
+    → may_use (rules_over count) (is_user (side_of user)) page frame ≡ true
 open_used count own true page frame h = h
 open_used count own false page frame h = h
 
-pub may_close_used : (image : Image) (count frames free : ℕ) (user : Bool) (first s : Space) (changes : List Change) → count ≡ text_pages image → Uses user first s → first.visited ≡ [] → first.mode ≡ wedge_mode image → AreWithin frames s.set
+pub may_close_used : (image : Image) (count frames free : ℕ) (user : Bool) (first s : Space) (changes : List Change)
+    → count ≡ text_pages image → Uses user first s → first.visited ≡ [] → first.mode ≡ wedge_mode image → AreWithin frames s.set
     → AreToldIn s.visited changes → length s.visited ≤ free → MayClose count (side_of user) s.set (pages_of s.visited changes) free
 may_close_used image count frames free user first s changes count_is uses none mode within told few = record {
-  open_to = λ q h. subst (λ (k : ℕ). is_entry_open k (side_of user) (get s.set q) ≡ true) (sym count_is) (by q (among_contains s.visited q (told_among s.visited changes told q h)) (get s.set q) refl);
+  open_to = λ q h. subst (λ (k : ℕ). is_entry_open k (side_of user) (get s.set q) ≡ true) (sym count_is)
+      (by q (among_contains s.visited q (told_among s.visited changes told q h)) (get s.set q) refl);
   room = (let u = used_within s.set (pages_of s.visited changes) s.visited (told_among s.visited changes told) in omega (arith, u, few));
 }
   where
     at_first : LeadWell user first
-    at_first = record { each = λ page c. absurd (let d = subst (λ (l : List ℕ). Contains l page) none c in let lt = d.1 in omega (arith, lt)) }
+    at_first =
+        record { each = λ page c. absurd (let d = subst (λ (l : List ℕ). Contains l page) none c in let lt = d.1 in omega (arith, lt)) }
 
-    by : (q : ℕ) → Contains s.visited q → (o : Option Entry) → get s.set q ≡ o → is_entry_open (text_pages image) (side_of user) (get s.set q) ≡ true
+    by : (q : ℕ) → Contains s.visited q → (o : Option Entry) → get s.set q ≡ o → is_entry_open (text_pages image) (side_of user)
+        (get s.set q) ≡ true
     by q c None at = ap (is_entry_open (text_pages image) (side_of user)) at
     by q c (Some e) at =
         let lead = (uses.lead at_first).each q c e at in
@@ -67,7 +72,8 @@ may_close_used image count frames free user first s changes count_is uses none m
         let there = subst (λ (x : Mode). may_use x user q e.frame ≡ true) mode here in
         let page : e.page ≡ q = (within q e at).0 in
         ap (is_entry_open (text_pages image) (side_of user)) at
-        ∙ subst (λ (k : ℕ). may_use (wedge_mode image) (is_user (side_of user)) k e.frame ≡ true) (sym page) (open_used (text_pages image) no_own user q e.frame there)
+        ∙ subst (λ (k : ℕ). may_use (wedge_mode image) (is_user (side_of user)) k e.frame ≡ true) (sym page)
+        (open_used (text_pages image) no_own user q e.frame there)
 
 -- ---- and lie under directory indices of the steps
 
@@ -75,7 +81,8 @@ among_member : (q : ℕ) (xs : List ℕ) → is_member eqb xs q ≡ is_among q x
 among_member q [] = refl
 among_member q (x ∷ xs) = ap (λ (b : Bool). (q == x) || b) (among_member q xs)
 
-pub index_used : IndicesGrow → (steps : List Taken) (t : Taken) (visited : List ℕ) (changes : List Change) → t.report.pages ≡ visited → AreToldIn visited changes
+pub index_used : IndicesGrow → (steps : List Taken) (t : Taken) (visited : List ℕ) (changes : List Change) → t.report.pages ≡ visited
+    → AreToldIn visited changes
     → (page : ℕ) → is_among page (pages_of visited changes) ≡ true → is_member eqb (indices_in (steps ++ t ∷ [])) (page / 1024) ≡ true
 index_used grow steps t visited changes pages told page h =
     (grow steps t).1 page (among_member page t.report.pages ∙ (ap (is_among page) pages ∙ told_among visited changes told page h))
@@ -93,7 +100,8 @@ module _ {S : Type 0} (shows : shadows.Ghosts S) where
     pub entries : entries_of (shows.slots s then) ≡ entries_of (shows.slots s memory)
     pub same : AreSame (shows.other_roots s memory) (shows.other_roots s then)
 
-  module _ (tells : SettlingTells) (comes : DroppedComesFrom) (still : KnownStill) (on : KnownOn) (image : Image) (script : Events) (n : ℕ) (steps : List Taken) (t : Taken) (b : State) (kept : Set) (s : S) (memory then : List ℕ)
+  module _ (tells : SettlingTells) (comes : DroppedComesFrom) (still : KnownStill) (on : KnownOn) (image : Image) (script : Events) (n : ℕ)
+      (steps : List Taken) (t : Taken) (b : State) (kept : Set) (s : S) (memory then : List ℕ)
       (d : IsDone image script n t b s memory then) (known : IsKnown (wedge image script n) steps t.before (sight shows s memory) kept)
       (v' : Sight)
     where
@@ -104,11 +112,14 @@ module _ {S : Type 0} (shows : shadows.Ghosts S) where
       room_before = subst (λ (l : List ℕ). 4096 * n ≤ length l) (sym d.taken.ram) d.room
 
       known_then : IsKnown m steps t.before (sight shows s then) kept
-      known_then = still m steps t.before (sight shows s memory) (sight shows s then) kept (record { notes = λ frame e. e; marks = λ e. e; others = d.same }) known
+      known_then = still m steps t.before (sight shows s memory) (sight shows s then) kept
+          (record { notes = λ frame e. e; marks = λ e. e; others = d.same }) known
 
       -- after a step that was ended
-      pub known_went : (w : Worked) (board : Board) (last : Space) (changes : List Change) → stepped m b ≡ went_as b w board last → RootsAs b.cpu w → IsReady shows (ground image n) b.cpu s memory
-          → last.set ≡ changed (entries_of (shows.slots s then)) changes → AreToldIn last.visited changes → 4096 * n ≤ length last.ram → AreBytes last.ram
+      pub known_went : (w : Worked) (board : Board) (last : Space) (changes : List Change) → stepped m b ≡ went_as b w board last
+          → RootsAs b.cpu w → IsReady shows (ground image n) b.cpu s memory
+          → last.set ≡ changed (entries_of (shows.slots s then)) changes → AreToldIn last.visited changes
+          → 4096 * n ≤ length last.ram → AreBytes last.ram
           → Ends w.dropped b.cpu w.cpu (pages_of last.visited changes) last.tables last.wrote last.set (sight shows s then) v'
           → IsKnown m (steps ++ t ∷ []) t.after v' (entries_of v'.slots)
       known_went w board last changes went roots ready set told room_after bytes ends =
@@ -116,14 +127,19 @@ module _ {S : Type 0} (shows : shadows.Ghosts S) where
           let base_is = d.entries ∙ (sym d.set ∙ sym d.by) in
           let base = entries_of (shows.slots s then) in
           on m steps t (sight shows s then) v' kept
-          (a_step tells comes t b.cpu w last (shows.cr3 s) base changes a d.taken.cpu roots ready.cr3_is set base_is told (shows.slots s memory) (d.by ∙ d.set) m b d.taken room_before room_after bytes)
-          (λ load un. all_found m steps t b.cpu (shown (ground image n) memory) (shows.read_from s) (shows.stale s) (shows.slots s memory) d.taken.cpu (d.taken.ram ∙ d.ram) (d.by ∙ d.set) (λ free page lt. ready.present free page lt refl) known.remembered.noted_read known.remembered.unmarked un)
-          (over tells comes t b.cpu w last (shows.cr3 s) base changes a d.taken.cpu roots ready.cr3_is set base_is told (shows.slots s memory) (d.by ∙ d.set) (sight shows s then) v' refl ends)
+          (a_step tells comes t b.cpu w last (shows.cr3 s) base changes a d.taken.cpu roots ready.cr3_is set base_is told
+          (shows.slots s memory) (d.by ∙ d.set) m b d.taken room_before room_after bytes)
+          (λ load un. all_found m steps t b.cpu (shown (ground image n) memory) (shows.read_from s) (shows.stale s) (shows.slots s memory)
+          d.taken.cpu (d.taken.ram ∙ d.ram) (d.by ∙ d.set) (λ free page lt. ready.present free page lt refl) known.remembered.noted_read
+          known.remembered.unmarked un)
+          (over tells comes t b.cpu w last (shows.cr3 s) base changes a d.taken.cpu roots ready.cr3_is set base_is told
+          (shows.slots s memory) (d.by ∙ d.set) (sight shows s then) v' refl ends)
           known_then
 
       -- after one that the host does, and that loads no CR3 and leaves the rules and the translations
       pub known_asked : (tables wrote : List ℕ) → t.report.tables ≡ tables → t.report.wrote ≡ wrote → is_load t.report.completed ≡ false
-          → (t.after.cpu.cr0 ≡ b.cpu.cr0) × (t.after.cpu.cr3 ≡ b.cpu.cr3) × (t.after.cpu.cr4 ≡ b.cpu.cr4) → t.after.set ≡ entries_of v'.slots → 4096 * n ≤ length t.after.ram → AreBytes t.after.ram
+          → (t.after.cpu.cr0 ≡ b.cpu.cr0) × (t.after.cpu.cr3 ≡ b.cpu.cr3) × (t.after.cpu.cr4 ≡ b.cpu.cr4)
+          → t.after.set ≡ entries_of v'.slots → 4096 * n ≤ length t.after.ram → AreBytes t.after.ram
           → Tells tables wrote (sight shows s then) v'
           → IsKnown m (steps ++ t ∷ []) t.after v' (entries_of v'.slots)
       known_asked tables wrote tables_are wrote_are load same set room_after bytes told =

@@ -77,7 +77,8 @@ three a b c e f g = ap (λ x. (x && not b) && c) e ∙ (ap (λ x. not x && c) f 
 
 -- a page that has an entry and is due is one of those that are filled
 module _ (kept : ℕ → Option Slot) (set : Set) (changes : List Change) (side : Side) (wp : Bool) where
-  in_filled : (q : ℕ) → has_entry (get set q) ≡ true → is_due kept changes side wp q ≡ true → (pages : List ℕ) → is_among q pages ≡ true → is_among q (refilled kept set changes side wp pages) ≡ true
+  in_filled : (q : ℕ) → has_entry (get set q) ≡ true → is_due kept changes side wp q ≡ true → (pages : List ℕ) → is_among q pages ≡ true
+      → is_among q (refilled kept set changes side wp pages) ≡ true
   in_filled q has due [] h = h
   in_filled q has due (p ∷ pages) h =
       elim (cases_Bool (is_among q pages)) [
@@ -87,7 +88,8 @@ module _ (kept : ℕ → Option Slot) (set : Set) (changes : List Change) (side 
               let here : ((has_entry (get set p) && not (is_among p pages)) && is_due kept changes side wp p) ≡ true =
               ap (λ k. (has_entry (get set k) && not (is_among k pages)) && is_due kept changes side wp k) (sym e.1)
               ∙ three (has_entry (get set q)) (is_among q pages) (is_due kept changes side wp q) has n due in
-              ap (λ (b : Bool). is_among q (cond {A = List ℕ} b (p ∷ refilled kept set changes side wp pages) (refilled kept set changes side wp pages))) here
+              ap (λ (b : Bool). is_among q
+              (cond {A = List ℕ} b (p ∷ refilled kept set changes side wp pages) (refilled kept set changes side wp pages))) here
               ∙ ap (λ b. b || is_among q (refilled kept set changes side wp pages)) e.0
           | inr o ↦ absurd (let f : true ≡ false = sym h ∙ (ap (λ b. b || is_among q pages) o.0 ∙ n) in cc)
         ]
@@ -98,7 +100,8 @@ module _ (kept : ℕ → Option Slot) (set : Set) (changes : List Change) (side 
       later true h = ap (λ b. (q == p) || b) h ∙ or-true (q == p)
       later false h = h
 
-grown : (old new : Set) (more : List ℕ) → ((q : ℕ) → is_some (get new q) ≡ true → (is_some (get old q) ≡ true) ⊎ (is_among q more ≡ true)) → len new ≤ len old + length more
+grown : (old new : Set) (more : List ℕ) → ((q : ℕ) → is_some (get new q) ≡ true → (is_some (get old q) ≡ true) ⊎ (is_among q more ≡ true))
+    → len new ≤ len old + length more
 grown old new more each =
     let some = length-le_from_is_member (eq_by_cmp_equiv nat_cmp_total) (keys new) (keys old ++ more) (distinct new)
     (λ q h.
@@ -122,7 +125,8 @@ part_few part whole p =
     omega (arith, g)
 
 -- a page whose entry the changes give, or that had it before
-by_changes : (set : Set) (changes : List Change) (q : ℕ) → is_some (get (changed set changes) q) ≡ true → (is_some (get set q) ≡ true) ⊎ (is_among q (map page_of changes) ≡ true)
+by_changes : (set : Set) (changes : List Change) (q : ℕ) → is_some (get (changed set changes) q) ≡ true → (is_some (get set q) ≡ true)
+    ⊎ (is_among q (map page_of changes) ≡ true)
 by_changes set [] q h = inl h
 by_changes set (c ∷ cs) q h =
     elim (eqb_tells q (page_of c)) [
@@ -134,13 +138,15 @@ by_changes set (c ∷ cs) q h =
     ]
 
 -- a page that comes is one of those that are filled
-pub changed_filled : (kept : ℕ → Option Slot) (set : Set) (changes : List Change) (side : Side) (wp : Bool) (visited : List ℕ) → AreToldIn visited changes
+pub changed_filled : (kept : ℕ → Option Slot) (set : Set) (changes : List Change) (side : Side) (wp : Bool) (visited : List ℕ)
+    → AreToldIn visited changes
     → len (changed set changes) ≤ len set + length (refilled kept (changed set changes) changes side wp visited)
 changed_filled kept set changes side wp visited told =
     grown set (changed set changes) (refilled kept (changed set changes) changes side wp visited)
     (λ q h. elim (by_changes set changes q h) [
       | inl t ↦ inl t
-      | inr t ↦ inr (in_filled kept (changed set changes) changes side wp q (has_some (get (changed set changes) q) h) (ap (λ (b : Bool). b || not (serves side wp (kept q))) t) visited (told q t))
+      | inr t ↦ inr (in_filled kept (changed set changes) changes side wp q (has_some (get (changed set changes) q) h)
+          (ap (λ (b : Bool). b || not (serves side wp (kept q))) t) visited (told q t))
     ])
 
 -- ---- one call, and two

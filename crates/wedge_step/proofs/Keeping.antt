@@ -26,7 +26,8 @@ keeps_join p q r m n o fs gs hs a b = record {
   lengths = b.lengths ∙ a.lengths;
   others = λ g low free held.
       let t = a.together g in
-      b.others g (subst (λ (n : ℕ). n ≤ g) (sym a.same.0) low) (omega (arith, t, free, held)) (omega (arith, t, free, held)) ∙ a.others g low free held;
+      b.others g (subst (λ (n : ℕ). n ≤ g) (sym a.same.0) low) (omega (arith, t, free, held)) (omega (arith, t, free, held))
+      ∙ a.others g low free held;
   out = λ g out held.
       let t = a.together g in
       let free = times-IsNotIn g (free_list p m) out.out in
@@ -34,7 +35,8 @@ keeps_join p q r m n o fs gs hs a b = record {
 }
 
 -- what is written below the pool leaves it
-pub keeps_above : (p : Pool) (m n : List ℕ) (limit : ℕ) (fs gs : List ℕ) → Stands p m → limit ≤ 4096 * base_of p → drop limit n ≡ drop limit m → length n ≡ length m → gs ≡ fs → Keeps p p m n fs gs
+pub keeps_above : (p : Pool) (m n : List ℕ) (limit : ℕ) (fs gs : List ℕ) → Stands p m → limit ≤ 4096 * base_of p
+    → drop limit n ≡ drop limit m → length n ≡ length m → gs ≡ fs → Keeps p p m n fs gs
 keeps_above p m n limit fs gs stands low above size same =
     let free = free_list-above p m n limit low above size stands in
     record {
@@ -47,4 +49,11 @@ keeps_above p m n limit fs gs stands low above size same =
     }
 
 pub keeps_moves : (p q : Pool) (m n fs gs : List ℕ) → Moves p q m n fs gs → Keeps p q m n fs gs
-keeps_moves p q m n fs gs v = record { same = v.same; size = v.size; together = v.together; lengths = v.lengths; others = λ g low free held. v.others g free held; out = v.out }
+keeps_moves p q m n fs gs v = record {
+  same = v.same;
+  size = v.size;
+  together = v.together;
+  lengths = v.lengths;
+  others = λ g low free held. v.others g free held;
+  out = v.out;
+}

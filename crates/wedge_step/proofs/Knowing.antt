@@ -61,7 +61,8 @@ pub record IsAnswer (t : Taken) (w : Worked) (s : Space) : Type 0 where
   pub ram : t.after.ram ≡ s.ram
   pub set : t.after.set ≡ dropping w.dropped s.set
 
-pub answer_from : (m : Setting) (b : State) (t : Taken) (w : Worked) (board : Board) (s : Space) → IsTakenFrom m b t → t.set ≡ b.set → stepped m b ≡ went_as b w board s → IsAnswer t w s
+pub answer_from : (m : Setting) (b : State) (t : Taken) (w : Worked) (board : Board) (s : Space) → IsTakenFrom m b t → t.set ≡ b.set
+    → stepped m b ≡ went_as b w board s → IsAnswer t w s
 answer_from m b t w board s taken set e =
     let is : Went t.report t.after ≡ went_as b w board s = sym taken.stepped ∙ (ap (λ (x : Set). stepped m (with_set b x)) set ∙ e) in
     let report = ap (report_in t.report) is in
@@ -79,7 +80,8 @@ answer_from m b t w board s taken set e =
 -- ---- pages that a step used
 
 -- a page that no access went through has the entry that it had
-unchanged : (base : Set) (visited : List ℕ) (changes : List Change) → AreToldIn visited changes → (q : ℕ) → is_among q visited ≡ false → get (changed base changes) q ≡ get base q
+unchanged : (base : Set) (visited : List ℕ) (changes : List Change) → AreToldIn visited changes → (q : ℕ) → is_among q visited ≡ false
+    → get (changed base changes) q ≡ get base q
 unchanged base visited changes told q out =
     changed_other base changes q (not_true (is_among q (map page_of changes)) (λ c. clash (is_among q visited) (told q c) out))
 
@@ -95,10 +97,13 @@ all_dropped dropped.All set e = refl
 pub told_by : SettlingTells → (t : Taken) (v v' : Sight) (tables wrote : List ℕ) → t.report.tables ≡ tables → t.report.wrote ≡ wrote
     → Tells tables wrote v v' → IsTold t v v'
 told_by tells t v v' tables wrote tables_are wrote_are told =
-    tells t v v' (subst (λ (l : List ℕ). Tells t.report.tables l v v') (sym wrote_are) (subst (λ (l : List ℕ). Tells l wrote v v') (sym tables_are) told))
+    tells t v v' (subst (λ (l : List ℕ). Tells t.report.tables l v v') (sym wrote_are)
+    (subst (λ (l : List ℕ). Tells l wrote v v') (sym tables_are) told))
 
-module _ (tells : SettlingTells) (comes : DroppedComesFrom) (t : Taken) (before : Cpu) (w : Worked) (s : Space) (value : Option ℕ) (base : Set) (changes : List Change)
-    (a : IsAnswer t w s) (cpu : t.before.cpu ≡ before) (roots : RootsAs before w) (cr3_is : value ≡ Some before.cr3) (set : s.set ≡ changed base changes) (base_is : base ≡ t.set)
+module _ (tells : SettlingTells) (comes : DroppedComesFrom) (t : Taken) (before : Cpu) (w : Worked) (s : Space) (value : Option ℕ)
+    (base : Set) (changes : List Change)
+    (a : IsAnswer t w s) (cpu : t.before.cpu ≡ before) (roots : RootsAs before w) (cr3_is : value ≡ Some before.cr3)
+    (set : s.set ≡ changed base changes) (base_is : base ≡ t.set)
     (told : AreToldIn s.visited changes) (first : ℕ → Option Slot) (by_first : t.set ≡ entries_of first)
   where
     load_is : loads_root t ≡ is_load (completed_by w.completed)
@@ -147,9 +152,12 @@ module _ (tells : SettlingTells) (comes : DroppedComesFrom) (t : Taken) (before 
             record {
               between = x;
               stay = r.sheds.stay;
-              comes = comes t s.set first x.slots by_first left (λ q lt e1. r.sheds.gone q lt (among_first q s.visited (map page_of changes) (is_used q e1)))
+              comes = comes t s.set first x.slots by_first left
+                  (λ q lt e1. r.sheds.gone q lt (among_first q s.visited (map page_of changes) (is_used q e1)))
                   (λ q lt e1.
-                  ap entry_in (r.sheds.others q lt (not_true (is_among q (pages_of s.visited changes)) (λ c. clash (is_among q s.visited) (told_among s.visited changes told q c) (unused q e1))))
+                  ap entry_in (r.sheds.others q lt
+                  (not_true (is_among q (pages_of s.visited changes))
+                  (λ c. clash (is_among q s.visited) (told_among s.visited changes told q c) (unused q e1))))
                   ∙ (sym (get-entries_of e.between.slots q lt) ∙ ap (λ (y : Set). get y q) e.entries));
               loaded = record {
                 present =
@@ -162,7 +170,8 @@ module _ (tells : SettlingTells) (comes : DroppedComesFrom) (t : Taken) (before 
               };
             }
 
-    pub a_step : (m : Setting) (b : State) → IsTakenFrom m b t → 4096 * m.frames ≤ length t.before.ram → 4096 * m.frames ≤ length s.ram → AreBytes s.ram → IsStep m t
+    pub a_step : (m : Setting) (b : State) → IsTakenFrom m b t → 4096 * m.frames ≤ length t.before.ram → 4096 * m.frames ≤ length s.ram
+        → AreBytes s.ram → IsStep m t
     a_step m b taken room room_after bytes = record {
       went = taken.went;
       room = room;
@@ -175,12 +184,16 @@ module _ (tells : SettlingTells) (comes : DroppedComesFrom) (t : Taken) (before 
 -- ---- what is present was found
 
 pub unwritten_before : (steps : List Taken) (t : Taken) → Unwritten (steps ++ t ∷ []) → Unwritten steps
-unwritten_before steps t u front x back e = u front x (back ++ t ∷ []) (ap (λ (l : List Taken). l ++ t ∷ []) e ∙ append_assoc front (x ∷ back) (t ∷ []))
+unwritten_before steps t u front x back e =
+    u front x (back ++ t ∷ []) (ap (λ (l : List Taken). l ++ t ∷ []) e ∙ append_assoc front (x ∷ back) (t ∷ []))
 
 -- from the directory in use, by words in frames that walks of the steps read
-pub all_found : (m : Setting) (steps : List Taken) (t : Taken) (cpu : Cpu) (ram : List ℕ) (read_from : ℕ → Bool) (stale : Bool) (slots : ℕ → Option Slot) → t.before.cpu ≡ cpu → t.before.ram ≡ ram → t.set ≡ entries_of slots
-    → (stale ≡ false → (page : ℕ) → page < 2 ^ 20 → ForSome (slots page) (λ (slot : Slot). IsFoundBy ram m.frames cpu.cr3 (pse_of cpu) read_from page slot.entry))
-    → ((frame : ℕ) → read_from frame ≡ true → was_read steps frame ≡ true) → (Unwritten steps → stale ≡ false) → Unwritten (steps ++ t ∷ []) → AllFound m t.before t.before.cpu.cr3 steps t.set
+pub all_found : (m : Setting) (steps : List Taken) (t : Taken) (cpu : Cpu) (ram : List ℕ) (read_from : ℕ → Bool) (stale : Bool)
+    (slots : ℕ → Option Slot) → t.before.cpu ≡ cpu → t.before.ram ≡ ram → t.set ≡ entries_of slots
+    → (stale ≡ false → (page : ℕ) → page < 2 ^ 20 → ForSome (slots page)
+    (λ (slot : Slot). IsFoundBy ram m.frames cpu.cr3 (pse_of cpu) read_from page slot.entry))
+    → ((frame : ℕ) → read_from frame ≡ true → was_read steps frame ≡ true) → (Unwritten steps → stale ≡ false) → Unwritten (steps ++ t ∷ [])
+    → AllFound m t.before t.before.cpu.cr3 steps t.set
 all_found m steps t cpu ram read_from stale slots cpu_is ram_is set_is present read unmarked un page e there =
     let kept : get (entries_of slots) page ≡ Some e = ap (λ (x : Set). get x page) (sym set_is) ∙ there in
     elim (cases_lt page (2 ^ 20)) [
@@ -188,12 +201,14 @@ all_found m steps t cpu ram read_from stale slots cpu_is ram_is set_is present r
       | inr ge ↦ absurd (none_some e (sym (none-entries_of slots page ge) ∙ kept))
     ]
   where
-    by : page < 2 ^ 20 → (o : Option Slot) → slots page ≡ o → entry_in (slots page) ≡ Some e → IsFoundBy t.before.ram m.frames t.before.cpu.cr3 (pse_of t.before.cpu) (was_read steps) page e
+    by : page < 2 ^ 20 → (o : Option Slot) → slots page ≡ o → entry_in (slots page) ≡ Some e
+        → IsFoundBy t.before.ram m.frames t.before.cpu.cr3 (pse_of t.before.cpu) (was_read steps) page e
     by lt None at there = absurd (let x : ◌≡◌ {A = Option _} None (Some e) = sym (ap entry_in at) ∙ there in cc)
     by lt (Some slot) at there =
         let same : slot.entry ≡ e = (let x : Some slot.entry ≡ Some e = sym (ap entry_in at) ∙ there in cc) in
         let here = present (unmarked (unwritten_before steps t un)) page lt slot at in
         let more = found_tables ram m.frames cpu.cr3 (pse_of cpu) read_from (was_read steps) page slot.entry read here in
         let now = subst (λ (c : Cpu). IsFoundBy ram m.frames c.cr3 (pse_of c) (was_read steps) page slot.entry) (sym cpu_is) more in
-        let then = subst (λ (l : List ℕ). IsFoundBy l m.frames t.before.cpu.cr3 (pse_of t.before.cpu) (was_read steps) page slot.entry) (sym ram_is) now in
+        let then = subst (λ (l : List ℕ). IsFoundBy l m.frames t.before.cpu.cr3 (pse_of t.before.cpu) (was_read steps) page slot.entry)
+        (sym ram_is) now in
         subst (λ x. IsFoundBy t.before.ram m.frames t.before.cpu.cr3 (pse_of t.before.cpu) (was_read steps) page x) same then

@@ -10,11 +10,14 @@ use Rattle.std.proofs.Math.Bool.{or-false}
 
 -- the first place, or else the second
 pub any_first : (f : ℕ → Bool) (o : Option Marks) (x : Marks) (r : Bool) → o ≡ Some x → r ≡ f x.dir → r ≡ true → r ≡ list_any f (marks_of o)
-any_first f o x r is first marks = marks ∙ sym (ap (λ (z : Option Marks). list_any f (marks_of z)) is ∙ ap (λ b. b || (f x.word || false)) (sym first ∙ marks))
+any_first f o x r is first marks =
+    marks ∙ sym (ap (λ (z : Option Marks). list_any f (marks_of z)) is ∙ ap (λ b. b || (f x.word || false)) (sym first ∙ marks))
 
-pub any_second : (f : ℕ → Bool) (o : Option Marks) (x : Marks) (r s : Bool) → o ≡ Some x → r ≡ f x.dir → r ≡ false → s ≡ f x.word → s ≡ list_any f (marks_of o)
+pub any_second : (f : ℕ → Bool) (o : Option Marks) (x : Marks) (r s : Bool) → o ≡ Some x → r ≡ f x.dir → r ≡ false → s ≡ f x.word
+    → s ≡ list_any f (marks_of o)
 any_second f o x r s is first passes second =
-    second ∙ sym (ap (λ (z : Option Marks). list_any f (marks_of z)) is ∙ (ap (λ b. b || (f x.word || false)) (sym first ∙ passes) ∙ or-false (f x.word)))
+    second ∙ sym (ap (λ (z : Option Marks). list_any f (marks_of z)) is
+    ∙ (ap (λ b. b || (f x.word || false)) (sym first ∙ passes) ∙ or-false (f x.word)))
 
 module _ (m : Setting) (b : State) (x : Seen) (page : ℕ) (at : page ≡ b.cpu.regs.eip / 4096 + 1) where
   next_from : (o : Option Seen) → o ≡ seen m b page → seen_behind b x o ≡ next_seen m b x

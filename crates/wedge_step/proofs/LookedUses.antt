@@ -37,12 +37,14 @@ module _ (entries : ℕ → Option Entry) (wp user : Bool) where
   abbrev pub hits : List ℕ → PageUse → Bool
   hits used u = is_among u.page used && is_refused_by (entries u.page) (record { write = u.write; user = user }) wp
 
-  pub hits_or_behind : (uses : List PageUse) (i : ℕ) → i < length uses → behind uses i ≡ (hits (before uses i) (get_or uses i none) || behind uses (i + 1))
+  pub hits_or_behind : (uses : List PageUse) (i : ℕ) → i < length uses
+      → behind uses i ≡ (hits (before uses i) (get_or uses i none) || behind uses (i + 1))
   hits_or_behind uses i lt =
       let all = model_uses user uses in
       let u = get_or uses i none in
       let in_all : i < length all = rw length-map lt in
-      let is : get_or all i (model_use user none) ≡ model_use user u = get_or-map (λ (p : PageUse). model_use user p) uses i none (model_use user none) lt in
+      let is : get_or all i (model_use user none) ≡ model_use user u =
+      get_or-map (λ (p : PageUse). model_use user p) uses i none (model_use user none) lt in
       at_drop_more (clash_behind entries wp (before uses i)) all i (model_use user none) in_all
       ∙ (ap (λ v. clash_behind entries wp (before uses i) (v ∷ drop (i + 1) all)) is
       ∙ ap (λ l. hits (before uses i) u || clash_behind entries wp l (drop (i + 1) all)) (sym (ap (before uses) (add-one i))))
@@ -56,7 +58,8 @@ module _ (entries : ℕ → Option Entry) (wp user : Bool) where
   judged : (u : PageUse) (access : Access) (w : Bool) → access ≡ record { write = u.write; user = user } → w ≡ wp
       → is_refused_by (entries u.page) access w ≡ is_refused_by (entries u.page) (record { write = u.write; user = user }) wp
   judged u access w a p =
-      ap (λ x. is_refused_by (entries u.page) x w) a ∙ ap (λ b. is_refused_by (entries u.page) (record { write = u.write; user = user }) b) p
+      ap (λ x. is_refused_by (entries u.page) x w) a
+      ∙ ap (λ b. is_refused_by (entries u.page) (record { write = u.write; user = user }) b) p
 
   pub clash_found : (uses : List PageUse) (i : ℕ) (all : Bool) (access : Access) (w : Bool) → i < length uses → all ≡ behind uses i
       → access ≡ record { write = (get_or uses i none).write; user = user } → w ≡ wp
@@ -98,7 +101,8 @@ bytes_few m a n k xs bytes none e le =
 
 -- the two pages of a fetch
 two_pages : (b : State) (old new : List PageUse) (page : ℕ) → page ≡ b.cpu.regs.eip / 4096 + 1
-    → model_uses (b.cpu.cpl == 3) old ≡ record { page = b.cpu.regs.eip / 4096; access = by_level b.cpu false } ∷ [] → new ≡ old ++ record { page = page; write = false } ∷ []
+    → model_uses (b.cpu.cpl == 3) old ≡ record { page = b.cpu.regs.eip / 4096; access = by_level b.cpu false } ∷ [] → new ≡ old
+    ++ record { page = page; write = false } ∷ []
     → model_uses (b.cpu.cpl == 3) new ≡ fetch_uses b (b.cpu.regs.eip / 4096 ∷ next_page b.cpu.regs.eip / 4096 ∷ [])
 two_pages b old new page is one push =
     let user : Bool = b.cpu.cpl == 3 in
@@ -109,7 +113,8 @@ two_pages b old new page is one push =
     ∙ ap (λ n. fetch_uses b (b.cpu.regs.eip / 4096 ∷ n ∷ [])) at))
 
 -- the bytes of the next page
-next_bytes : (ram front bytes : List ℕ) (x : Seen) (eip page : ℕ) → page ≡ eip / 4096 + 1 → bytes ≡ front ++ part (marked ram x.marks) (4096 * x.frame + page * 4096 % 4096) 11
+next_bytes : (ram front bytes : List ℕ) (x : Seen) (eip page : ℕ) → page ≡ eip / 4096 + 1 → bytes ≡ front
+    ++ part (marked ram x.marks) (4096 * x.frame + page * 4096 % 4096) 11
     → bytes ≡ front ++ bytes_seen (marked ram x.marks) x (next_page eip) longest
 next_bytes ram front bytes x eip page is e =
     let same : page * 4096 % 4096 ≡ next_page eip % 4096 = omega (arith, is) in
@@ -121,12 +126,15 @@ no_ranges b (begins.Insn insn len) h = absurd (h insn len refl)
 no_ranges b begins.Short h = refl
 no_ranges b begins.Outside h = refl
 
-pub no_ranges_more : (b : State) (d : Decoded) (uses : List Use) → ((insn : Insn) (len : ℕ) → d ≡ begins.Insn insn len → ⊥) → uses ≡ uses ++ range_uses b d
+pub no_ranges_more : (b : State) (d : Decoded) (uses : List Use) → ((insn : Insn) (len : ℕ) → d ≡ begins.Insn insn len → ⊥)
+    → uses ≡ uses ++ range_uses b d
 no_ranges_more b d uses h = sym (append-nil uses) ∙ ap (λ l. uses ++ l) (sym (no_ranges b d h))
 
 -- what is collected where the next page was reached
-pub on_next : (o : Option Seen) (b : State) (ram front bytes : List ℕ) (x : Seen) (old new : List PageUse) (page : ℕ) (d : Decoded) (all : List Use) → page ≡ b.cpu.regs.eip / 4096 + 1
-    → model_uses (b.cpu.cpl == 3) old ≡ record { page = b.cpu.regs.eip / 4096; access = by_level b.cpu false } ∷ [] → new ≡ old ++ record { page = page; write = false } ∷ []
+pub on_next : (o : Option Seen) (b : State) (ram front bytes : List ℕ) (x : Seen) (old new : List PageUse) (page : ℕ) (d : Decoded)
+    (all : List Use) → page ≡ b.cpu.regs.eip / 4096 + 1
+    → model_uses (b.cpu.cpl == 3) old ≡ record { page = b.cpu.regs.eip / 4096; access = by_level b.cpu false } ∷ [] → new ≡ old
+    ++ record { page = page; write = false } ∷ []
     → Some x ≡ o → bytes ≡ front ++ part (marked ram x.marks) (4096 * x.frame + page * 4096 % 4096) 11
     → d ≡ decoded bytes → all ≡ model_uses (b.cpu.cpl == 3) new ++ range_uses b d
     → all ≡ uses_on b ram front o
@@ -140,15 +148,18 @@ on_next o b ram front bytes x old new page d all is one push found read decodes 
     ∙ ap (uses_on b ram front) found)))
 
 -- A state is looked at by its processor, memory and set alone.
-looked_alike : (image : Image) (script : Events) (frames : ℕ) (b : State) (cpu : Cpu) (ram : List ℕ) (set : Set) → b.cpu ≡ cpu → b.ram ≡ ram → b.set ≡ set
-    → clash_in (get set) (wp_of cpu) (uses_seen (ground image frames) (looked cpu ram set)) ≡ clash_in (get b.set) (wp_of b.cpu) (uses_seen (wedge image script frames) b)
+looked_alike : (image : Image) (script : Events) (frames : ℕ) (b : State) (cpu : Cpu) (ram : List ℕ) (set : Set) → b.cpu ≡ cpu
+    → b.ram ≡ ram → b.set ≡ set
+    → clash_in (get set) (wp_of cpu) (uses_seen (ground image frames) (looked cpu ram set)) ≡ clash_in (get b.set) (wp_of b.cpu)
+    (uses_seen (wedge image script frames) b)
 looked_alike image script frames b cpu ram set c r s =
     ap (λ (x : Cpu). clash_in (get set) (wp_of x) (uses_seen (ground image frames) (looked x ram set))) (sym c)
     ∙ (ap (λ (x : List ℕ). clash_in (get set) (wp_of b.cpu) (uses_seen (ground image frames) (looked b.cpu x set))) (sym r)
     ∙ ap (λ (x : Set). clash_in (get x) (wp_of b.cpu) (uses_seen (ground image frames) (looked b.cpu b.ram x))) (sym s))
 
 -- Where the pages that are looked at are those of the step, the answer is that of the step.
-pub as_the_step : (image : Image) (script : Events) (frames : ℕ) (b : State) (cpu : Cpu) (ram : List ℕ) (set : Set) (result : Bool) (uses list : List PageUse)
+pub as_the_step : (image : Image) (script : Events) (frames : ℕ) (b : State) (cpu : Cpu) (ram : List ℕ) (set : Set) (result : Bool)
+    (uses list : List PageUse)
     → result ≡ clash_in (get set) (wp_of cpu) (model_uses (cpu.cpl == 3) uses) → uses ≡ list
     → model_uses (cpu.cpl == 3) list ≡ uses_seen (ground image frames) (looked cpu ram set)
     → b.cpu ≡ cpu → b.ram ≡ ram → b.set ≡ set → uses_at (wedge image script frames) b ≡ uses_seen (wedge image script frames) b
@@ -161,10 +172,12 @@ as_the_step image script frames b cpu ram set result uses list is same looks c r
     ∙ (looked_alike image script frames b cpu ram set c r s ∙ ap (clash_in (get b.set) (wp_of b.cpu)) (sym all))))
 
 -- And where a look finds a clash, so does the law of looks.
-pub as_it_looks : (image : Image) (script : Events) (frames : ℕ) (b : State) (cpu : Cpu) (ram : List ℕ) (set : Set) (result : Bool) (uses list : List PageUse)
+pub as_it_looks : (image : Image) (script : Events) (frames : ℕ) (b : State) (cpu : Cpu) (ram : List ℕ) (set : Set) (result : Bool)
+    (uses list : List PageUse)
     → result ≡ clash_in (get set) (wp_of cpu) (model_uses (cpu.cpl == 3) uses) → uses ≡ list
     → model_uses (cpu.cpl == 3) list ≡ uses_seen (ground image frames) (looked cpu ram set)
-    → b.cpu ≡ cpu → b.ram ≡ ram → b.set ≡ set → result ≡ true → clash_in (get b.set) (wp_of b.cpu) (uses_seen (wedge image script frames) b) ≡ true
+    → b.cpu ≡ cpu → b.ram ≡ ram → b.set ≡ set → result ≡ true
+    → clash_in (get b.set) (wp_of b.cpu) (uses_seen (wedge image script frames) b) ≡ true
 as_it_looks image script frames b cpu ram set result uses list is same looks c r s found =
     sym (looked_alike image script frames b cpu ram set c r s)
     ∙ (ap (clash_in (get set) (wp_of cpu)) (sym looks)

@@ -22,7 +22,8 @@ pub part_same : (part whole : Set) → part ≡ whole → IsPartOf part whole
 part_same part whole is = record { each = λ page e h. ap (λ (set : Set). get set page) (sym is) ∙ h }
 
 pub part_empty : (part whole : Set) → part ≡ empty → IsPartOf part whole
-part_empty part whole is = record { each = λ page e h. absurd (none_some e (sym (get-empty nat_cmp page) ∙ (ap (λ (set : Set). get set page) (sym is) ∙ h))) }
+part_empty part whole is =
+    record { each = λ page e h. absurd (none_some e (sym (get-empty nat_cmp page) ∙ (ap (λ (set : Set). get set page) (sym is) ∙ h))) }
 
 pub part_join : (a b c : Set) → IsPartOf a b → IsPartOf b c → IsPartOf a c
 part_join a b c p q = record { each = λ page e h. q.each page e (p.each page e h) }
@@ -48,7 +49,8 @@ dropped_part (dropped.Page page) set = record {
         | inr n ↦ sym (get_with_other set page None q n.1) ∙ is
       ];
 }
-dropped_part (dropped.Dir index) set = record { each = λ q e is. not_dropped (not (q / 1024 == index)) (get set q) e (sym (retained set index q) ∙ is) }
+dropped_part (dropped.Dir index) set =
+    record { each = λ q e is. not_dropped (not (q / 1024 == index)) (get set q) e (sym (retained set index q) ∙ is) }
 dropped_part dropped.All set = part_empty empty set refl
 
 -- what is left of a set is a part
@@ -71,11 +73,13 @@ dropping_empty (dropped.Dir index) =
     same_map nat_cmp_total nat_cmp-IsAntisymmetric (without_dir none index) none
     (λ q.
     let stays : Bool = not (q / 1024 == index) in
-    retained none index q ∙ (ap (λ (o : Option Entry). cond stays o None) (get-empty nat_cmp q) ∙ (cond_none stays ∙ sym (get-empty nat_cmp q))))
+    retained none index q ∙ (ap (λ (o : Option Entry). cond stays o None) (get-empty nat_cmp q)
+    ∙ (cond_none stays ∙ sym (get-empty nat_cmp q))))
 dropping_empty dropped.All = refl
 
 -- all may leave before some of them do, and after that
-pub left_twice : (d : Dropped) (first second : Bool) (set mid new : Set) → mid ≡ left_of first set → new ≡ left_of second (dropping d mid) → new ≡ left_of (first || second) (dropping d set)
+pub left_twice : (d : Dropped) (first second : Bool) (set mid new : Set) → mid ≡ left_of first set → new ≡ left_of second (dropping d mid)
+    → new ≡ left_of (first || second) (dropping d set)
 left_twice d true true set mid new is then = then
 left_twice d true false set mid new is then = then ∙ (ap (dropping d) is ∙ dropping_empty d)
 left_twice d false second set mid new is then = then ∙ ap (λ (x : Set). left_of second (dropping d x)) is

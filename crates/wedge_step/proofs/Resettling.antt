@@ -32,26 +32,33 @@ or_parts false b c e f = (refl, sym e ∙ f)
 
 -- what is kept for other values
 abbrev pub OthersAre : Option ℕ → (tables wrote : List ℕ) → (olds news : List OtherRoot) → Type 0
-OthersAre result tables wrote olds news = MatchOption result (news ≡ []) (λ n. LoseWrites (guest_frames tables) (all_spared wrote olds) news)
+OthersAre result tables wrote olds news =
+    MatchOption result (news ≡ []) (λ n. LoseWrites (guest_frames tables) (all_spared wrote olds) news)
 
-pub closed_opens : (image : Image) (wp : Bool) (result : Option ℕ) (tables wrote : List ℕ) (olds news : List OtherRoot) → OthersAre result tables wrote olds news → AllOpen image wp olds → AllOpen image wp news
+pub closed_opens : (image : Image) (wp : Bool) (result : Option ℕ) (tables wrote : List ℕ) (olds news : List OtherRoot)
+    → OthersAre result tables wrote olds news → AllOpen image wp olds → AllOpen image wp news
 closed_opens image wp None tables wrote olds news is h = subst (AllOpen image wp) (sym is) tt
-closed_opens image wp (Some n) tables wrote olds news is h = open_shed image wp (all_spared wrote olds) news (lost_shed (guest_frames tables) (all_spared wrote olds) news is) (open_spared image wp wrote olds h)
+closed_opens image wp (Some n) tables wrote olds news is h = open_shed image wp (all_spared wrote olds) news
+    (lost_shed (guest_frames tables) (all_spared wrote olds) news is) (open_spared image wp wrote olds h)
 
-pub closed_pages : (result : Option ℕ) (tables wrote : List ℕ) (olds news : List OtherRoot) → OthersAre result tables wrote olds news → pages_of_others news ≤ pages_of_others olds
+pub closed_pages : (result : Option ℕ) (tables wrote : List ℕ) (olds news : List OtherRoot) → OthersAre result tables wrote olds news
+    → pages_of_others news ≤ pages_of_others olds
 closed_pages None tables wrote olds news is = let none = ap pages_of_others is in omega (arith, none)
 closed_pages (Some n) tables wrote olds news is =
     let same = shed_pages (all_spared wrote olds) news (lost_shed (guest_frames tables) (all_spared wrote olds) news is) in
     let few = spared_pages wrote olds in
     omega (arith, same, few)
 
-pub closed_filled : (result : Option ℕ) (tables wrote : List ℕ) (old new : Set) (olds news : List OtherRoot) → OthersAre result tables wrote olds news → IfSome result (λ n. len new ≤ len old + n)
+pub closed_filled : (result : Option ℕ) (tables wrote : List ℕ) (old new : Set) (olds news : List OtherRoot)
+    → OthersAre result tables wrote olds news → IfSome result (λ n. len new ≤ len old + n)
     → IfSome result (λ n. len new + pages_of_others news ≤ len old + pages_of_others olds + n)
 closed_filled None tables wrote old new olds news is few = tt
-closed_filled (Some n) tables wrote old new olds news is few = let more = closed_pages (Some n) tables wrote olds news is in omega (arith, few, more)
+closed_filled (Some n) tables wrote old new olds news is few =
+    let more = closed_pages (Some n) tables wrote olds news is in omega (arith, few, more)
 
 -- nothing is kept in the slots of an empty set
-pub no_slots : (slots : ℕ → Option Slot) → ((page : ℕ) → page < 2 ^ 20 → get (entries_of slots) page ≡ entry_in (slots page)) → entries_of slots ≡ empty → (page : ℕ) → page < 2 ^ 20 → slots page ≡ None
+pub no_slots : (slots : ℕ → Option Slot) → ((page : ℕ) → page < 2 ^ 20 → get (entries_of slots) page ≡ entry_in (slots page))
+    → entries_of slots ≡ empty → (page : ℕ) → page < 2 ^ 20 → slots page ≡ None
 no_slots slots at is page lt = no_slot (slots page) (sym (at page lt) ∙ (ap (λ (set : Set). get set page) is ∙ get-empty nat_cmp page))
 
 module _ {S : Type 0} (shows : shadows.Ghosts S) where
@@ -59,32 +66,41 @@ module _ {S : Type 0} (shows : shadows.Ghosts S) where
   pub record Settled (old new : S) (memory then : List ℕ) (set : Set) (tables wrote : List ℕ) (result : Option ℕ) : Type 0 where
     pub entries : MatchOption result (entries_of (shows.slots new then) ≡ empty) (λ n. entries_of (shows.slots new then) ≡ set)
     pub at : (page : ℕ) → page < 2 ^ 20 → get (entries_of (shows.slots new then)) page ≡ entry_in (shows.slots new then page)
-    pub noted_is : IsSome result → (frame : ℕ) → is_among frame wrote ≡ false → shows.read_from new frame ≡ read_by (shows.read_from old) tables frame
-    pub marked_is : MatchOption result (shows.stale new ≡ true → shows.stale old ≡ true) (λ n. shows.stale new ≡ (shows.stale old || list_any (read_by (shows.read_from old) tables) wrote))
+    pub noted_is : IsSome result → (frame : ℕ) → is_among frame wrote ≡ false
+        → shows.read_from new frame ≡ read_by (shows.read_from old) tables frame
+    pub marked_is : MatchOption result (shows.stale new ≡ true → shows.stale old ≡ true)
+        (λ n. shows.stale new ≡ (shows.stale old || list_any (read_by (shows.read_from old) tables) wrote))
     pub cr3_is : shows.cr3 new ≡ shows.cr3 old
     pub others_are : OthersAre result tables wrote (shows.other_roots old memory) (shows.other_roots new then)
 
-  pub closed_none : (old new : S) (memory then : List ℕ) (set : Set) (tables wrote : List ℕ) (result : Option ℕ) → Settled old new memory then set tables wrote result → is_none result ≡ true → pages_kept shows new then ≡ 0
+  pub closed_none : (old new : S) (memory then : List ℕ) (set : Set) (tables wrote : List ℕ) (result : Option ℕ) → Settled old new memory
+      then set tables wrote result → is_none result ≡ true → pages_kept shows new then ≡ 0
   closed_none old new memory then set tables wrote None s e = none_pages shows new then s.entries s.others_are
   closed_none old new memory then set tables wrote (Some n) s e = absurd (let f : false ≡ true = e in cc)
 
-  pub closed_ready : (out : ℕ → Bool) (m : Setting) (cpu : Cpu) (old new : S) (memory then : List ℕ) (set : Set) (tables wrote : List ℕ) (result : Option ℕ) → Settled old new memory then set tables wrote result
+  pub closed_ready : (out : ℕ → Bool) (m : Setting) (cpu : Cpu) (old new : S) (memory then : List ℕ) (set : Set) (tables wrote : List ℕ)
+      (result : Option ℕ) → Settled old new memory then set tables wrote result
       → shown m then ≡ shown m memory → IsReadyBehind shows out m cpu old memory set tables wrote → IsReadyBut shows out m cpu new then
   closed_ready out m cpu old new memory then set tables wrote None s ram h =
       none_ready shows out m cpu new then (s.cr3_is ∙ h.cr3_is) (no_slots (shows.slots new then) s.at s.entries) s.others_are
   closed_ready out m cpu old new memory then set tables wrote (Some n) s ram h =
-      let parts = λ (un : shows.stale new ≡ false). or_parts (shows.stale old) (list_any (read_by (shows.read_from old) tables) wrote) (shows.stale new) s.marked_is un in
+      let parts = λ (un : shows.stale new ≡ false). or_parts (shows.stale old) (list_any (read_by (shows.read_from old) tables) wrote)
+      (shows.stale new) s.marked_is un in
       settled_ready shows out m cpu old new memory then set tables wrote s.cr3_is parts
-      (λ un page lt e. found_tables (shown m memory) m.frames cpu.cr3 (Rattle.descriptors.specs.Controls.pse_of cpu) (read_by (shows.read_from old) tables) (shows.read_from new) page e
+      (λ un page lt e. found_tables (shown m memory) m.frames cpu.cr3 (Rattle.descriptors.specs.Controls.pse_of cpu)
+      (read_by (shows.read_from old) tables) (shows.read_from new) page e
       (λ f r. s.noted_is refl f (unwritten f (parts un).1 r) ∙ r))
       (λ page lt. ap (λ (x : Set). get x page) (sym s.entries) ∙ s.at page lt)
       (lost_shed (guest_frames tables) (all_spared wrote (shows.other_roots old memory)) (shows.other_roots new then) s.others_are) ram h
     where
-      by : (f : ℕ) (b : Bool) → is_among f wrote ≡ b → list_any (read_by (shows.read_from old) tables) wrote ≡ false → read_by (shows.read_from old) tables f ≡ true → is_among f wrote ≡ false
-      by f true e none r = absurd (clash (read_by (shows.read_from old) tables f) r (any_none (read_by (shows.read_from old) tables) wrote none f e))
+      by : (f : ℕ) (b : Bool) → is_among f wrote ≡ b → list_any (read_by (shows.read_from old) tables) wrote ≡ false
+          → read_by (shows.read_from old) tables f ≡ true → is_among f wrote ≡ false
+      by f true e none r =
+          absurd (clash (read_by (shows.read_from old) tables f) r (any_none (read_by (shows.read_from old) tables) wrote none f e))
       by f false e none r = e
 
-      unwritten : (f : ℕ) → list_any (read_by (shows.read_from old) tables) wrote ≡ false → read_by (shows.read_from old) tables f ≡ true → is_among f wrote ≡ false
+      unwritten : (f : ℕ) → list_any (read_by (shows.read_from old) tables) wrote ≡ false → read_by (shows.read_from old) tables f ≡ true
+          → is_among f wrote ≡ false
       unwritten f none r = by f (is_among f wrote) refl none r
 
 -- how many were filled, and how many are kept then

@@ -37,19 +37,26 @@ use Rattle.wedge_step.proofs.Boards.{none_given}
 
 -- ---- entries that a step leaves as they were
 
-stays : (d : Dropped) (set : Set) (pages : List ℕ) (q : ℕ) → is_all d ≡ false → leaving d pages q ≡ false → get (dropping d set) q ≡ get set q
+stays : (d : Dropped) (set : Set) (pages : List ℕ) (q : ℕ) → is_all d ≡ false → leaving d pages q ≡ false
+    → get (dropping d set) q ≡ get set q
 stays dropped.Nothing set pages q a h = refl
-stays (dropped.Page page) set pages q a h = get_with_other set page None q (λ e. elim (eqb_tells q page) [ inl t ↦ clash (q == page) t.0 h | inr n ↦ n.1 e ])
+stays (dropped.Page page) set pages q a h =
+    get_with_other set page None q (λ e. elim (eqb_tells q page) [ inl t ↦ clash (q == page) t.0 h | inr n ↦ n.1 e ])
 stays (dropped.Dir index) set pages q a h = retained set index q ∙ ap (λ (b : Bool). cond (not b) (get set q) None) h
 stays dropped.All set pages q a h = absurd (clash true refl a)
 
 -- an entry that it left, but for those that leave, was there or was left by its accesses
-kept_or_left : (d : Dropped) (base : Set) (visited : List ℕ) (cs : List Change) (first last : Set) → ((q : ℕ) → get base q ≡ get first q) → ((q : ℕ) → ForSome (get (dropping d (changed base cs)) q) (λ e. get last q ≡ Some e))
-    → (page : ℕ) → leaving d (pages_of visited cs) page ≡ false → (e : Entry) → get (changed base cs) page ≡ Some e → (get first page ≡ Some e) ⊎ (get last page ≡ Some e)
-kept_or_left dropped.All base visited cs first last same left page out e is = inl (sym (changed_other base cs page (not-second page visited (map page_of cs) out) ∙ same page) ∙ is)
+kept_or_left : (d : Dropped) (base : Set) (visited : List ℕ) (cs : List Change) (first last : Set) → ((q : ℕ) → get base q ≡ get first q)
+    → ((q : ℕ) → ForSome (get (dropping d (changed base cs)) q) (λ e. get last q ≡ Some e))
+    → (page : ℕ) → leaving d (pages_of visited cs) page ≡ false → (e : Entry) → get (changed base cs) page ≡ Some e
+    → (get first page ≡ Some e) ⊎ (get last page ≡ Some e)
+kept_or_left dropped.All base visited cs first last same left page out e is =
+    inl (sym (changed_other base cs page (not-second page visited (map page_of cs) out) ∙ same page) ∙ is)
 kept_or_left dropped.Nothing base visited cs first last same left page out e is = inr (left page e is)
-kept_or_left (dropped.Page gone) base visited cs first last same left page out e is = inr (left page e (stays (dropped.Page gone) (changed base cs) (pages_of visited cs) page refl out ∙ is))
-kept_or_left (dropped.Dir index) base visited cs first last same left page out e is = inr (left page e (stays (dropped.Dir index) (changed base cs) (pages_of visited cs) page refl out ∙ is))
+kept_or_left (dropped.Page gone) base visited cs first last same left page out e is =
+    inr (left page e (stays (dropped.Page gone) (changed base cs) (pages_of visited cs) page refl out ∙ is))
+kept_or_left (dropped.Dir index) base visited cs first last same left page out e is =
+    inr (left page e (stays (dropped.Dir index) (changed base cs) (pages_of visited cs) page refl out ∙ is))
 
 -- ---- a step
 
@@ -69,7 +76,8 @@ module _ {S : Type 0} (shows : shadows.Ghosts S) where
     pub entries : entries_of (shows.slots s then) ≡ entries_of (shows.slots s memory)
     pub same : AreSame (shows.other_roots s memory) (shows.other_roots s then)
 
-  module _ (image : Image) (n : ℕ) (b : State) (s : S) (memory then : List ℕ) (k : Steps image n b s memory then) (h : IsReady shows (ground image n) b.cpu s memory) where
+  module _ (image : Image) (n : ℕ) (b : State) (s : S) (memory then : List ℕ) (k : Steps image n b s memory then)
+      (h : IsReady shows (ground image n) b.cpu s memory) where
     abbrev m : Setting
     m = ground image n
 
@@ -92,13 +100,28 @@ module _ {S : Type 0} (shows : shadows.Ghosts S) where
     }
 
     -- that went
-    pub went_ready : StepsFollow → (worked : Worked) (board : Board) (t : Space) (changes : List Change) → stepped m b ≡ went_as b worked board t → t.ram ≡ shown m then → t.set ≡ changed (entries_of (shows.slots s then)) changes
-        → IsReadyBehind shows (leaving worked.dropped (pages_of t.visited changes)) m b.cpu s then (changed (entries_of (shows.slots s then)) changes) t.tables t.wrote
+    pub went_ready : StepsFollow → (worked : Worked) (board : Board) (t : Space) (changes : List Change)
+        → stepped m b ≡ went_as b worked board t → t.ram ≡ shown m then → t.set ≡ changed (entries_of (shows.slots s then)) changes
+        → IsReadyBehind shows (leaving worked.dropped (pages_of t.visited changes)) m b.cpu s
+        then (changed (entries_of (shows.slots s then)) changes) t.tables t.wrote
     went_ready steps worked board t changes e ram set_is =
-        let report : Report = record { items = Rattle.machine_model.specs.Step.items_at b.step (whats worked.seen); completed = completed_by worked.completed; pages = t.visited; tables = t.tables; wrote = t.wrote } in
-        let after : State = record { cpu = worked.cpu; ram = t.ram; set = dropping worked.dropped t.set; board = Rattle.board.specs.Boards.board_step board; step = b.step + 1 } in
+        let report : Report = record {
+          items = Rattle.machine_model.specs.Step.items_at b.step (whats worked.seen);
+          completed = completed_by worked.completed;
+          pages = t.visited;
+          tables = t.tables;
+          wrote = t.wrote;
+        } in
+        let after : State = record {
+          cpu = worked.cpu;
+          ram = t.ram;
+          set = dropping worked.dropped t.set;
+          board = Rattle.board.specs.Boards.board_step board;
+          step = b.step + 1;
+        } in
         let left = steps m b b.set report after (ground_step image n b ∙ e) in
-        behind_ready shows m b.cpu s memory then first left.last (step_from left.last left.follows (sym left.ram ∙ ram)) t.tables t.wrote (sym left.tables) (sym left.wrote) h
+        behind_ready shows m b.cpu s memory then first left.last (step_from left.last left.follows (sym left.ram ∙ ram)) t.tables t.wrote
+        (sym left.tables) (sym left.wrote) h
         (leaving worked.dropped (pages_of t.visited changes)) (changed (entries_of (shows.slots s then)) changes)
         (λ page lt out x is. kept_or_left worked.dropped (entries_of (shows.slots s then)) t.visited changes b.set left.last.set
         (λ q. ap (λ (set : Set). get set q) (k.entries ∙ sym k.set))

@@ -49,5 +49,6 @@ before uses (suc n) = (slice_index_or uses n (record { page = 0; write = false }
 -- The next instruction, if the fetch gives one, doesn't clash with what is kept.
 abbrev pub IsClear : Setting → State → Type 0
 IsClear m b =
-    (insn : Insn) (len : ℕ) (after : Space) → fetched (b.cpu.cpl == 3) b.cpu.regs.eip (space_at_start m.mode m.frames b.cpu b.ram b.set) ≡ Ok (begins.Insn insn len, after)
+    (insn : Insn) (len : ℕ) (after : Space) → fetched (b.cpu.cpl == 3) b.cpu.regs.eip (space_at_start m.mode m.frames b.cpu b.ram b.set)
+    ≡ Ok (begins.Insn insn len, after)
     → instruction_clashes m b ≡ false

@@ -15,7 +15,8 @@ pub record MayClose (count : ℕ) (side : Side) (set : Set) (pages : List ℕ) (
   pub room : length (used set pages) ≤ free
 
 -- all of the set is kept: these pages on this side, and no frame that was written is barred from writes
-pub record Closes (old new : ℕ → Option Slot) (set : Set) (pages : List ℕ) (side : Side) (wp : Bool) (write_protected wrote : List ℕ) : Type 0 where
+pub record Closes (old new : ℕ → Option Slot) (set : Set) (pages : List ℕ) (side : Side) (wp : Bool)
+    (write_protected wrote : List ℕ) : Type 0 where
   pub settles : Settles old new set pages side wp write_protected
   pub unprotected : (frame : ℕ) → is_among frame wrote ≡ true → is_among frame write_protected ≡ false
   pub entries : entries_of new ≡ set

@@ -45,7 +45,8 @@ AllOpen image wp (a ∷ other_roots) = AreOpen image wp a.slots × AllOpen image
 -- those whose tables lie in none of the frames that were written
 abbrev pub AreReadyBehind : List ℕ → Setting → Cpu → List ℕ → List OtherRoot → Type 0
 AreReadyBehind wrote m cpu ram [] = Unit {0}
-AreReadyBehind wrote m cpu ram (a ∷ other_roots) = (list_any a.tables wrote ≡ false → IsReadyRoot m cpu ram a) × AreReadyBehind wrote m cpu ram other_roots
+AreReadyBehind wrote m cpu ram (a ∷ other_roots) =
+    (list_any a.tables wrote ≡ false → IsReadyRoot m cpu ram a) × AreReadyBehind wrote m cpu ram other_roots
 
 -- the pages that leave at the end of a step; where all leave, those that the step went through
 abbrev pub leaving : Dropped → List ℕ → ℕ → Bool
@@ -63,7 +64,8 @@ module _ {S : Type 0} (g : shadows.Ghosts S) where
   -- for the pages that the test leaves out. So is what is kept under other values.
   pub record IsReadyBut (out : ℕ → Bool) (m : Setting) (cpu : Cpu) (s : S) (memory : List ℕ) : Type 0 where
     pub cr3_is : g.cr3 s ≡ Some cpu.cr3
-    pub present : g.stale s ≡ false → (page : ℕ) → page < 2 ^ 20 → out page ≡ false → ForSome (g.slots s memory page) (IsFoundIn m cpu (shown m memory) cpu.cr3 (g.read_from s) page)
+    pub present : g.stale s ≡ false → (page : ℕ) → page < 2 ^ 20 → out page ≡ false
+        → ForSome (g.slots s memory page) (IsFoundIn m cpu (shown m memory) cpu.cr3 (g.read_from s) page)
     pub others : AreReady m cpu (shown m memory) (g.other_roots s memory)
 
   abbrev pub IsReady : Setting → Cpu → S → List ℕ → Type 0
@@ -71,8 +73,10 @@ module _ {S : Type 0} (g : shadows.Ghosts S) where
 
   -- The same after the accesses of a step, for the translations that it left: it has read these frames as tables, and
   -- written those.
-  pub record IsReadyBehind (out : ℕ → Bool) (m : Setting) (cpu : Cpu) (s : S) (memory : List ℕ) (set : Set) (tables wrote : List ℕ) : Type 0 where
+  pub record IsReadyBehind (out : ℕ → Bool) (m : Setting) (cpu : Cpu) (s : S) (memory : List ℕ) (set : Set)
+      (tables wrote : List ℕ) : Type 0 where
     pub cr3_is : g.cr3 s ≡ Some cpu.cr3
-    pub present : g.stale s ≡ false → list_any (read_by (g.read_from s) tables) wrote ≡ false → (page : ℕ) → page < 2 ^ 20 → out page ≡ false
+    pub present : g.stale s ≡ false → list_any (read_by (g.read_from s) tables) wrote ≡ false → (page : ℕ)
+        → page < 2 ^ 20 → out page ≡ false
         → ForSome (get set page) (IsFoundBy (shown m memory) m.frames cpu.cr3 (pse_of cpu) (read_by (g.read_from s) tables) page)
     pub others : AreReadyBehind wrote m cpu (shown m memory) (g.other_roots s memory)

@@ -79,12 +79,14 @@ module _ {S : Type 0} (g : bound.Ghosts S) where
 
   -- they have tables under no other directory indices than before
   abbrev pub OpensNoMore : Stand S → Stand S → Type 0
-  OpensNoMore old new = (indices : ℕ → Bool) → g.has_tables_under old.shadows old.memory indices → g.has_tables_under new.shadows new.memory indices
+  OpensNoMore old new =
+      (indices : ℕ → Bool) → g.has_tables_under old.shadows old.memory indices → g.has_tables_under new.shadows new.memory indices
 
   -- nor but for these pages
   abbrev pub OpensFor : List ℕ → Stand S → Stand S → Type 0
   OpensFor pages old new =
-      (indices : ℕ → Bool) → AreUnder pages indices → g.has_tables_under old.shadows old.memory indices → g.has_tables_under new.shadows new.memory indices
+      (indices : ℕ → Bool) → AreUnder pages indices → g.has_tables_under old.shadows old.memory indices
+      → g.has_tables_under new.shadows new.memory indices
 
   -- with tables under these directory indices alone, two of so many frames stay free
   abbrev pub Suffices : (ℕ → Bool) → ℕ → Type 0

@@ -33,7 +33,8 @@ turned true o = refl
 turned false o = refl
 
 -- a page after those of a directory index were dropped
-pub dir_get : (m : FinMap nat_cmp Entry) (index page : ℕ) → get (without_dir m index) page ≡ cond (eqb (page / 1024) index) None (get m page)
+pub dir_get : (m : FinMap nat_cmp Entry) (index page : ℕ)
+    → get (without_dir m index) page ≡ cond (eqb (page / 1024) index) None (get m page)
 dir_get m index page =
     let p : ℕ → Bool = λ q. not (eqb (q / 1024) index) in
     get-retain_keys m p page (λ x t. ap p (sym (nat_cmp-IsAntisymmetric page x t))) ∙ turned (eqb (page / 1024) index) (get m page)
@@ -50,7 +51,8 @@ chosen true o = inl refl
 chosen false o = inr refl
 
 -- where an entry was put, and pages with a property alone were kept, another page is as before or gone
-pub put_others : (m : FinMap nat_cmp Entry) (p : ℕ → Bool) (e : Entry) (page : ℕ) → page ≢ e.page → IsSameOrGone (get m page) (get (insert (retain_keys m p) e.page e) page)
+pub put_others : (m : FinMap nat_cmp Entry) (p : ℕ → Bool) (e : Entry) (page : ℕ) → page ≢ e.page
+    → IsSameOrGone (get m page) (get (insert (retain_keys m p) e.page e) page)
 put_others m p e page h =
     let is =
     get-insert nat_cmp_total (retain_keys m p) e.page e page

@@ -11,10 +11,12 @@ use Rattle.xlate_buffer.specs.Calls.{Call, Keep, DropPage, DropDir, DropAll, mad
 
 -- an equal page has an equal remainder
 split : (q : ℕ) (e : Entry) (o : Option Entry) →
-    cond (eqb q e.page) (Some e) (cond (not (eqb (q % 64) (e.page % 64))) o None) ≡ cond (eqb (q % 64) (e.page % 64)) (cond (eqb q e.page) (Some e) None) o
+    cond (eqb q e.page) (Some e) (cond (not (eqb (q % 64) (e.page % 64))) o None) ≡ cond (eqb (q % 64) (e.page % 64))
+    (cond (eqb q e.page) (Some e) None) o
 split q e o =
     elim (eqb_tells (q % 64) (e.page % 64)) [
-      | inl t ↦ ap (λ b. cond (eqb q e.page) (Some e) (cond (not b) o None)) t.0 ∙ sym (ap (λ b. cond b (cond (eqb q e.page) (Some e) None) o) t.0)
+      | inl t ↦ ap (λ b. cond (eqb q e.page) (Some e) (cond (not b) o None)) t.0
+          ∙ sym (ap (λ b. cond b (cond (eqb q e.page) (Some e) None) o) t.0)
       | inr f ↦
           ap (λ b. cond (eqb q e.page) (Some e) (cond (not b) o None)) f.0
           ∙ elim (eqb_tells q e.page) [
@@ -25,7 +27,8 @@ split q e o =
     ]
 
 -- a page after an entry was kept
-pub keep_get : (m : FinMap nat_cmp Entry) (e : Entry) (page : ℕ) → get (insert (retain_keys m (λ k. not (eqb (k % 64) (e.page % 64)))) e.page e) page
+pub keep_get : (m : FinMap nat_cmp Entry) (e : Entry) (page : ℕ)
+    → get (insert (retain_keys m (λ k. not (eqb (k % 64) (e.page % 64)))) e.page e) page
     ≡ cond (eqb (page % 64) (e.page % 64)) (cond (eqb page e.page) (Some e) None) (get m page)
 keep_get m e page =
     let p : ℕ → Bool = λ k. not (eqb (k % 64) (e.page % 64)) in
@@ -37,10 +40,12 @@ keep_get m e page =
 pub finds : (calls : List Call) (page : ℕ) → get (made_by calls) page ≡ last_kept calls page
 finds [] page = get-empty nat_cmp page
 finds (Keep e ∷ earlier) page =
-    keep_get (made_by earlier) e page ∙ ap (λ o. cond (eqb (page % 64) (e.page % 64)) (cond (eqb page e.page) (Some e) None) o) (finds earlier page)
+    keep_get (made_by earlier) e page ∙ ap (λ o. cond (eqb (page % 64) (e.page % 64)) (cond (eqb page e.page) (Some e) None) o)
+    (finds earlier page)
 finds (DropPage q ∷ earlier) page =
     get-remove nat_cmp_total (made_by earlier) q page
     ∙ ap (λ b. cond b None (get (made_by earlier) page)) (unsigned_tied page q)
     ∙ ap (λ o. cond (eqb page q) None o) (finds earlier page)
-finds (DropDir index ∷ earlier) page = dir_get (made_by earlier) index page ∙ ap (λ o. cond (eqb (page / 1024) index) None o) (finds earlier page)
+finds (DropDir index ∷ earlier) page =
+    dir_get (made_by earlier) index page ∙ ap (λ o. cond (eqb (page / 1024) index) None o) (finds earlier page)
 finds (DropAll ∷ earlier) page = get-empty nat_cmp page

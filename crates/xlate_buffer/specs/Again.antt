@@ -14,7 +14,8 @@ get_kept set e q =
     let p : ℕ → Bool = λ page. not (page % 64 == e.page % 64) in
     get-insert nat_cmp_total (retain_keys set p) e.page e q
     ∙ (ap (λ b. cond b (Some e) (get (retain_keys set p) q)) (unsigned_tied q e.page)
-    ∙ ap (λ (o : Option Entry). cond (eqb q e.page) (Some e) o) (get-retain_keys set p q (λ x t. ap p (sym (nat_cmp-IsAntisymmetric q x t)))))
+    ∙ ap (λ (o : Option Entry). cond (eqb q e.page) (Some e) o)
+    (get-retain_keys set p q (λ x t. ap p (sym (nat_cmp-IsAntisymmetric q x t)))))
 
 twice : (is stays : Bool) (e o : Option Entry) → cond is e (cond stays (cond is e (cond stays o None)) None) ≡ cond is e (cond stays o None)
 twice true stays e o = refl

@@ -72,13 +72,15 @@ fewer m m' r (suc n) h =
     let d = fewer m m' r n (less m m' r n h) in
     omega (arith, a, b, c, d)
 
-one-more : (m m' : List ℕ) (r n d : ℕ) → Keep m m' r n → d < n → dir m r d ≡ 0 → dir m' r d ≢ 0 → length (tables m r n) + 1 ≤ length (tables m' r n)
+one-more : (m m' : List ℕ) (r n d : ℕ) → Keep m m' r n → d < n → dir m r d ≡ 0 → dir m' r d ≢ 0 → length (tables m r n)
+    + 1 ≤ length (tables m' r n)
 one-more m m' r zero d h l z s = absurd (omega (arith, l))
 one-more m m' r (suc n) d h l z s =
     let a = cons-count m r n in
     let b = cons-count m' r n in
     elim (cases_lt d n) [
-      | inl k ↦ let c = count-keeps (dir m r n) (dir m' r n) (h n (omega arith)) in let e = one-more m m' r n d (less m m' r n h) k z s in omega (arith, a, b, c, e)
+      | inl k ↦ let c = count-keeps (dir m r n) (dir m' r n) (h n (omega arith)) in let e = one-more m m' r n d (less m m' r n h) k z s in
+          omega (arith, a, b, c, e)
       | inr k ↦
           let q : d ≡ n = omega (arith, k, l) in
           let c = count-zero (dir m r n) (subst (λ x. dir m r x ≡ 0) q z) in
@@ -87,14 +89,16 @@ one-more m m' r (suc n) d h l z s =
           omega (arith, a, b, c, e, f)
     ]
 
-two-more : (m m' : List ℕ) (r n d e : ℕ) → Keep m m' r n → d < n → e < n → (d ≡ e → ⊥) → dir m r d ≡ 0 → dir m' r d ≢ 0 → dir m r e ≡ 0 → dir m' r e ≢ 0 → length (tables m r n) + 2 ≤ length (tables m' r n)
+two-more : (m m' : List ℕ) (r n d e : ℕ) → Keep m m' r n → d < n → e < n → (d ≡ e → ⊥) → dir m r d ≡ 0 → dir m' r d ≢ 0 → dir m r e ≡ 0
+    → dir m' r e ≢ 0 → length (tables m r n) + 2 ≤ length (tables m' r n)
 two-more m m' r zero d e h l k ne z s y t = absurd (omega (arith, l))
 two-more m m' r (suc n) d e h l k ne z s y t =
     let a = cons-count m r n in
     let b = cons-count m' r n in
     elim (cases_lt d n) [
       | inl p ↦ elim (cases_lt e n) [
-        | inl q ↦ let c = count-keeps (dir m r n) (dir m' r n) (h n (omega arith)) in let f = two-more m m' r n d e (less m m' r n h) p q ne z s y t in omega (arith, a, b, c, f)
+        | inl q ↦ let c = count-keeps (dir m r n) (dir m' r n) (h n (omega arith)) in
+            let f = two-more m m' r n d e (less m m' r n h) p q ne z s y t in omega (arith, a, b, c, f)
         | inr q ↦
             let i : e ≡ n = omega (arith, q, k) in
             let c = count-zero (dir m r n) (subst (λ x. dir m r x ≡ 0) i y) in
@@ -130,27 +134,36 @@ user-keep : (s : Shadow) (m m' : List ℕ) → KeepsTables s m m' → Keep m m' 
 user-keep s m m' k = λ d l ne. k User d l ne
 
 -- one table more in a view, and two
-grew : (s : Shadow) (m m' : List ℕ) (side : Side) (d : ℕ) → KeepsTables s m m' → d < 1024 → dir m (root_of s side) d ≡ 0 → HasTable s m' side d → length (held s m) + 1 ≤ length (held s m')
+grew : (s : Shadow) (m m' : List ℕ) (side : Side) (d : ℕ) → KeepsTables s m m' → d < 1024 → dir m (root_of s side) d ≡ 0
+    → HasTable s m' side d → length (held s m) + 1 ≤ length (held s m')
 grew s m m' Kernel d k l z t =
-    let a = held-count s m in let b = held-count s m' in let c = one-more m m' s.kernel 1024 d (kernel-keep s m m' k) l z t in let e = fewer m m' s.user 1024 (user-keep s m m' k) in omega (arith, a, b, c, e)
+    let a = held-count s m in let b = held-count s m' in let c = one-more m m' s.kernel 1024 d (kernel-keep s m m' k) l z t in
+    let e = fewer m m' s.user 1024 (user-keep s m m' k) in omega (arith, a, b, c, e)
 grew s m m' User d k l z t =
-    let a = held-count s m in let b = held-count s m' in let c = one-more m m' s.user 1024 d (user-keep s m m' k) l z t in let e = fewer m m' s.kernel 1024 (kernel-keep s m m' k) in omega (arith, a, b, c, e)
+    let a = held-count s m in let b = held-count s m' in let c = one-more m m' s.user 1024 d (user-keep s m m' k) l z t in
+    let e = fewer m m' s.kernel 1024 (kernel-keep s m m' k) in omega (arith, a, b, c, e)
 
-grew-two : (s : Shadow) (m m' : List ℕ) (x y : Side) (d e : ℕ) → KeepsTables s m m' → d < 1024 → e < 1024 → (d ≡ e → ⊥) → dir m (root_of s x) d ≡ 0 → HasTable s m' x d → dir m (root_of s y) e ≡ 0 → HasTable s m' y e
+grew-two : (s : Shadow) (m m' : List ℕ) (x y : Side) (d e : ℕ) → KeepsTables s m m' → d < 1024 → e < 1024 → (d ≡ e → ⊥)
+    → dir m (root_of s x) d ≡ 0 → HasTable s m' x d → dir m (root_of s y) e ≡ 0 → HasTable s m' y e
     → length (held s m) + 2 ≤ length (held s m')
 grew-two s m m' Kernel Kernel d e k l o ne z t u v =
-    let a = held-count s m in let b = held-count s m' in let c = two-more m m' s.kernel 1024 d e (kernel-keep s m m' k) l o ne z t u v in let f = fewer m m' s.user 1024 (user-keep s m m' k) in omega (arith, a, b, c, f)
+    let a = held-count s m in let b = held-count s m' in let c = two-more m m' s.kernel 1024 d e (kernel-keep s m m' k) l o ne z t u v in
+    let f = fewer m m' s.user 1024 (user-keep s m m' k) in omega (arith, a, b, c, f)
 grew-two s m m' User User d e k l o ne z t u v =
-    let a = held-count s m in let b = held-count s m' in let c = two-more m m' s.user 1024 d e (user-keep s m m' k) l o ne z t u v in let f = fewer m m' s.kernel 1024 (kernel-keep s m m' k) in omega (arith, a, b, c, f)
+    let a = held-count s m in let b = held-count s m' in let c = two-more m m' s.user 1024 d e (user-keep s m m' k) l o ne z t u v in
+    let f = fewer m m' s.kernel 1024 (kernel-keep s m m' k) in omega (arith, a, b, c, f)
 grew-two s m m' Kernel User d e k l o ne z t u v =
-    let a = held-count s m in let b = held-count s m' in let c = one-more m m' s.kernel 1024 d (kernel-keep s m m' k) l z t in let f = one-more m m' s.user 1024 e (user-keep s m m' k) o u v in omega (arith, a, b, c, f)
+    let a = held-count s m in let b = held-count s m' in let c = one-more m m' s.kernel 1024 d (kernel-keep s m m' k) l z t in
+    let f = one-more m m' s.user 1024 e (user-keep s m m' k) o u v in omega (arith, a, b, c, f)
 grew-two s m m' User Kernel d e k l o ne z t u v =
-    let a = held-count s m in let b = held-count s m' in let c = one-more m m' s.user 1024 d (user-keep s m m' k) l z t in let f = one-more m m' s.kernel 1024 e (kernel-keep s m m' k) o u v in omega (arith, a, b, c, f)
+    let a = held-count s m in let b = held-count s m' in let c = one-more m m' s.user 1024 d (user-keep s m m' k) l z t in
+    let f = one-more m m' s.kernel 1024 e (kernel-keep s m m' k) o u v in omega (arith, a, b, c, f)
 
 -- ---- for which directory indices
 
 -- no table is new where no more frames are held
-pub only-kept : (indices : ℕ → Bool) (s : Shadow) (m m' : List ℕ) → KeepsTables s m m' → length (held s m') ≤ length (held s m) → HasOpenedOnly indices s m → HasOpenedOnly indices s m'
+pub only-kept : (indices : ℕ → Bool) (s : Shadow) (m m' : List ℕ) → KeepsTables s m m' → length (held s m') ≤ length (held s m)
+    → HasOpenedOnly indices s m → HasOpenedOnly indices s m'
 only-kept indices s m m' k few h side index l t =
     elim (zero-or (dir m (root_of s side) index)) [
       | inl z ↦ absurd (let g = grew s m m' side index k l z t in omega (arith, g, few))
@@ -158,15 +171,18 @@ only-kept indices s m m' k few h side index l t =
     ]
 
 -- a fill opens at most the table of its own index
-pub only-has_tables_under : (indices : ℕ → Bool) (s : Shadow) (m m' : List ℕ) (at : Side) (opened : ℕ) → opened < 1024 → HasOpened s m m' at opened → indices opened ≡ true → HasOpenedOnly indices s m → HasOpenedOnly indices s m'
+pub only-has_tables_under : (indices : ℕ → Bool) (s : Shadow) (m m' : List ℕ) (at : Side) (opened : ℕ) → opened < 1024
+    → HasOpened s m m' at opened → indices opened ≡ true → HasOpenedOnly indices s m → HasOpenedOnly indices s m'
 only-has_tables_under indices s m m' at opened fits o may h side index l t =
     elim (zero-or (dir m (root_of s side) index)) [
       | inr ne ↦ h side index l ne
       | inl z ↦ elim (eqb_tells index opened) [
         | inl e ↦ subst (λ i. indices i ≡ true) (sym e.1) may
         | inr ne ↦ elim (zero-or (dir m (root_of s at) opened)) [
-          | inl y ↦ absurd (let g = grew-two s m m' side at index opened o.others l fits ne.1 z t y o.there in let one = o.one in omega (arith, g, one))
-          | inr there ↦ absurd (let g = grew s m m' side index o.others l z t in let same = ap (λ (fs : List ℕ). length fs) (o.already there) in omega (arith, g, same))
+          | inl y ↦ absurd (let g = grew-two s m m' side at index opened o.others l fits ne.1 z t y o.there in let one = o.one in
+              omega (arith, g, one))
+          | inr there ↦ absurd (let g = grew s m m' side index o.others l z t in
+              let same = ap (λ (fs : List ℕ). length fs) (o.already there) in omega (arith, g, same))
         ]
       ]
     ]
@@ -189,7 +205,8 @@ only-none indices s m few side index l t = absurd (by side t)
     by Kernel t = let a = held-count s m in let b = some s.kernel 1024 index l t in omega (arith, a, b, few)
     by User t = let a = held-count s m in let b = some s.user 1024 index l t in omega (arith, a, b, few)
 
-pub only-same : (indices : ℕ → Bool) (s : Shadow) (m m' : List ℕ) → SameIn (held s m) m m' → HasOpenedOnly indices s m → HasOpenedOnly indices s m'
+pub only-same : (indices : ℕ → Bool) (s : Shadow) (m m' : List ℕ) → SameIn (held s m) m m' → HasOpenedOnly indices s m
+    → HasOpenedOnly indices s m'
 only-same indices s m m' e h side index l t =
     let r = root_of s side in
     h side index l (λ z. t (dir-frame m m' r index (e.frames r (owned-root m r (roots s) (in-root s side))) l ∙ z))
@@ -229,7 +246,8 @@ pub unique-member : (xs : List ℕ) (q : ℕ) → is_member eqb xs q ≡ true �
 unique-member [] q h = h
 unique-member (x ∷ xs) q h = by (is_member eqb xs x) refl (unique-member xs q) (member-or x xs q h)
   where
-    by : (b : Bool) → is_member eqb xs x ≡ b → (is_member eqb xs q ≡ true → is_member eqb (unique_keys eqb xs) q ≡ true) → (q ≡ x) ⊎ (is_member eqb xs q ≡ true)
+    by : (b : Bool) → is_member eqb xs x ≡ b → (is_member eqb xs q ≡ true → is_member eqb (unique_keys eqb xs) q ≡ true) → (q ≡ x)
+        ⊎ (is_member eqb xs q ≡ true)
         → is_member eqb (cond b (unique_keys eqb xs) (x ∷ unique_keys eqb xs)) q ≡ true
     by true is k (inl e) = k (subst (λ (v : ℕ). is_member eqb xs v ≡ true) (sym e) is)
     by true is k (inr m) = k m
@@ -273,23 +291,27 @@ named-all : (m : List ℕ) (r n : ℕ) → AllByRecursion (Names m r n) (named m
 unfolding named
 named-all m r zero = tt
 named-all m r (suc n) =
-    with-all (Names m r (suc n)) (dir m r n) n (named m r n) (λ ne. (omega arith, ne)) (wider-all (Names m r n) (Names m r (suc n)) (named m r n) (λ d h. (let l = h.0 in omega (arith, l), h.1)) (named-all m r n))
+    with-all (Names m r (suc n)) (dir m r n) n (named m r n) (λ ne. (omega arith, ne))
+    (wider-all (Names m r n) (Names m r (suc n)) (named m r n) (λ d h. (let l = h.0 in omega (arith, l), h.1)) (named-all m r n))
 
 with-distinct : (w n : ℕ) (ns : List ℕ) → AllByRecursion (λ x. x < n) ns → IsDistinct eqb ns → IsDistinct eqb (with_index w n ns)
 unfolding with_index IsDistinct
 with-distinct zero n ns below d = d
-with-distinct (suc w) n ns below d = (wider-all (λ x. x < n) (λ x. eqb n x ≡ false) ns (λ x l. ne-is n x (λ e. omega (arith, e, l))) below, d)
+with-distinct (suc w) n ns below d =
+    (wider-all (λ x. x < n) (λ x. eqb n x ≡ false) ns (λ x l. ne-is n x (λ e. omega (arith, e, l))) below, d)
 
 named-distinct : (m : List ℕ) (r n : ℕ) → IsDistinct eqb (named m r n)
 unfolding named IsDistinct
 named-distinct m r zero = tt
-named-distinct m r (suc n) = with-distinct (dir m r n) n (named m r n) (wider-all (Names m r n) (λ x. x < n) (named m r n) (λ x h. h.0) (named-all m r n)) (named-distinct m r n)
+named-distinct m r (suc n) = with-distinct (dir m r n) n (named m r n)
+    (wider-all (Names m r n) (λ x. x < n) (named m r n) (λ x h. h.0) (named-all m r n)) (named-distinct m r n)
 
 member-holds : (P : ℕ → Type 0) (ns : List ℕ) (q : ℕ) → AllByRecursion P ns → is_member eqb ns q ≡ true → P q
 member-holds P [] q h m = absurd (let e : false ≡ true = m in cc)
 member-holds P (x ∷ ns) q h m = elim (member-or x ns q m) [ inl e ↦ subst P (sym e) h.0 | inr k ↦ member-holds P ns q h.1 k ]
 
-view-size : (m : List ℕ) (r : ℕ) (xs : List ℕ) → ((d : ℕ) → d < 1024 → dir m r d ≢ 0 → is_member eqb xs d ≡ true) → length (tables m r 1024) ≤ distinct_count eqb xs
+view-size : (m : List ℕ) (r : ℕ) (xs : List ℕ) → ((d : ℕ) → d < 1024 → dir m r d ≢ 0 → is_member eqb xs d ≡ true)
+    → length (tables m r 1024) ≤ distinct_count eqb xs
 view-size m r xs h =
     let a = length-le_from_is_member equal (named m r 1024) (unique_keys eqb xs) (named-distinct m r 1024)
     (λ q k. unique-member xs q (let n = member-holds (Names m r 1024) (named m r 1024) q (named-all m r 1024) k in h q n.0 n.1)) in
@@ -297,7 +319,8 @@ view-size m r xs h =
     omega (arith, a, b)
 
 -- two frames, and one for each directory index in each view
-pub held-size : (indices : ℕ → Bool) (s : Shadow) (m : List ℕ) (xs : List ℕ) → HasOpenedOnly indices s m → ((index : ℕ) → index < 1024 → indices index ≡ true → is_member eqb xs index ≡ true)
+pub held-size : (indices : ℕ → Bool) (s : Shadow) (m : List ℕ) (xs : List ℕ) → HasOpenedOnly indices s m
+    → ((index : ℕ) → index < 1024 → indices index ≡ true → is_member eqb xs index ≡ true)
     → length (held s m) ≤ 2 + 2 * distinct_count eqb xs
 held-size indices s m xs only all =
     let a = held-count s m in

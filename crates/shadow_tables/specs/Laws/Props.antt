@@ -13,7 +13,12 @@ IsMarked-prop word x y =
     let reads_prop : IsProp (word / 2 % 2 ≡ 1 → word % 2 ≡ 1) = Prim.hlevel props in
     let plain_prop : IsProp (word / 8 % 64 ≡ 0) = Prim.hlevel props in
     let fits_prop : IsProp (word < 2 ^ 32) = Prim.hlevel props in
-    λ i. record { user = user_prop x.user y.user i; reads = reads_prop x.reads y.reads i; plain = plain_prop x.plain y.plain i; fits = fits_prop x.fits y.fits i }
+    λ i. record {
+      user = user_prop x.user y.user i;
+      reads = reads_prop x.reads y.reads i;
+      plain = plain_prop x.plain y.plain i;
+      fits = fits_prop x.fits y.fits i;
+    }
 
 pub IsShadow-prop : (s : Shadow) (m : List ℕ) → IsProp (IsShadow s m)
 IsShadow-prop s m x y =

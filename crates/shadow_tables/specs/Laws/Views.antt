@@ -21,7 +21,8 @@ pub in-root : (s : Shadow) (side : Side) → IsIn (root_of s side) (roots s)
 in-root s Kernel = inl refl
 in-root s User = inr (inl refl)
 
-pub slot-same : (s : Shadow) (m m' : List ℕ) (q : ℕ) → at m' s.kernel q ≡ at m s.kernel q → at m' s.user q ≡ at m s.user q → slot_at s m' q ≡ slot_at s m q
+pub slot-same : (s : Shadow) (m m' : List ℕ) (q : ℕ) → at m' s.kernel q ≡ at m s.kernel q → at m' s.user q ≡ at m s.user q
+    → slot_at s m' q ≡ slot_at s m q
 unfolding slot_at
 slot-same s m m' q a b = ap (λ x. by_words q x (at m' s.user q)) a ∙ ap (by_words q (at m s.kernel q)) b
 
@@ -64,7 +65,8 @@ module _ (s : Shadow) (m m' : List ℕ) (h : IsShadow s m) (e : SameIn (held s m
   IsShadow-stays =
       record {
         holds = Holds-along m' (held s m) (held s m') held-stays (Holds-writes (held s m) m m' h.holds e.size);
-        apart = λ q l ne. (let e = apart-words s.kernel q (in-kernel s) l in apart-words s.user q (in-user s) l ∙ h.apart q l (λ z. ne (e ∙ z)));
+        apart = λ q l ne. (let e = apart-words s.kernel q (in-kernel s) l in
+            apart-words s.user q (in-user s) l ∙ h.apart q l (λ z. ne (e ∙ z)));
         shape = λ r d i l ne. (let e' = apart-dirs r d i l in subst (λ x. x % 4096 ≡ 7) (sym e') (h.shape r d i l (λ z. ne (e' ∙ z))));
         marks = λ r q i l ne. (let e' = apart-words r q i l in subst IsMarked (sym e') (h.marks r q i l (λ z. ne (e' ∙ z))));
       }

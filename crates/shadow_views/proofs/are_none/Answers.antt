@@ -10,5 +10,8 @@ returns c =
     let made = from_le_bytes w64 (part m c.args.at 8) in
     let same : c.from_le_bytes.result ≡ made = c.from_le_bytes.ensures ∙ ap (from_le_bytes w64) c.part-p.ensures.bytes in
     record {
-      none = (λ t. none-at m c.args.at (is-zero made c.from_le_bytes.result same t), λ h. zero-is made c.from_le_bytes.result same (none-makes m c.args.at h));
+      none = (
+        λ t. none-at m c.args.at (is-zero made c.from_le_bytes.result same t),
+        λ h. zero-is made c.from_le_bytes.result same (none-makes m c.args.at h),
+      );
     }

@@ -9,6 +9,7 @@ use Rattle.afterburner.proofs.data.put_values.Goals as goal
 pub loop-argument-preserved : goal.loop-argument-preserved
 loop-argument-preserved c =
     let fits : SFits w64 c.number.result = search rules in
-    one_more (λ (a : Argument). value_bytes c.args.size (number_in a.form)) c.args.out.now.items c.loop-argument.out.items c.put_value.new.out.items
+    one_more (λ (a : Argument). value_bytes c.args.size (number_in a.form)) c.args.out.now.items c.loop-argument.out.items
+    c.put_value.new.out.items
     _ c.args.arguments.now c.loop-argument.argument-index c.argument-item.result c.loop-argument-test.true c.argument-item.is
     (ap (value_bytes c.args.size) (to_z-of_z fits ∙ c.number.ensures)) c.loop-argument.invariant c.in_ok-put_value.ensures

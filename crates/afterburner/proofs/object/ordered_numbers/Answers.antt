@@ -12,9 +12,20 @@ loop-definition-preserved c =
     let k = c.loop-definition.definition-index in
     let locals = counted_more (defines false) ds k undefined c.loop-definition-test.true in
     let globals = counted_more (defines true) ds k undefined c.loop-definition-test.true in
-    let number : c.ordered.result ≡ ordered_number ds k = rw (c.ordered.ensures, c.is_global-global.ensures, c.local_count-all.ensures.count, c.loop-definition.invariant.locals, c.loop-definition.invariant.globals) refl in
+    let number : c.ordered.result ≡ ordered_number ds k = rw (
+      c.ordered.ensures,
+      c.is_global-global.ensures,
+      c.local_count-all.ensures.count,
+      c.loop-definition.invariant.locals,
+      c.loop-definition.invariant.globals,
+    ) refl in
     record {
-      numbers = rw (map-range_with_len_more (ordered_number ds) 0 k k (omega arith), c.in_ok-push.ensures.items, c.loop-definition.invariant.numbers, number) refl;
+      numbers = rw (
+        map-range_with_len_more (ordered_number ds) 0 k k (omega arith),
+        c.in_ok-push.ensures.items,
+        c.loop-definition.invariant.numbers,
+        number,
+      ) refl;
       count = simp (c.in_ok-push.ensures.items, length-append) (omega arith);
       locals = rw (locals, c.one_if-locals.ensures.count, c.is_global-global.ensures, c.loop-definition.invariant.locals) refl;
       globals = rw (globals, c.one_if-globals.ensures.count, c.is_global-global.ensures, c.loop-definition.invariant.globals) refl;

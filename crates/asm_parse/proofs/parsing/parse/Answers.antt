@@ -25,7 +25,8 @@ returns c =
       size = by_length (λ x. IfOk x (λ s. items_size s ≤ length text)) text r long exact (parsed_size text r) (λ lt. tt);
       count = by_length (λ x. IfOk x (λ s. items_count s ≤ length text)) text r long exact (parsed_count text r) (λ lt. tt);
       readable = by_length (λ x. IfOk x IsReadable) text r long exact (parsed_readable text r) (λ lt. tt);
-      only = by_length (λ x. (items : List SourceItem) → SourceAs text items → ReadsAs items x) text r long exact (λ small p. are_parsed text r p) (none_parsed text);
+      only = by_length (λ x. (items : List SourceItem) → SourceAs text items → ReadsAs items x) text r long exact
+          (λ small p. are_parsed text r p) (none_parsed text);
       exact = exact;
       dead = λ small. refused_line text r (exact small);
       alive = λ small. refused_alive text r (exact small);

@@ -8,4 +8,5 @@ returns-in-None-clause-none c = never c.steps_are_quiet.ensures c.begin.new.self
 pub returns-in-Some-clause-none : goal.returns-in-Some-clause-none
 returns-in-Some-clause-none c =
     let within : c.saturating_add.result ≤ c.args.step + c.in-Some.steps = omega (arith, c.saturating_add.ensures) in
-    until c.steps_are_quiet.ensures c.begin.new.self c.args.script.now.list c.args.step c.in-Some.steps c.saturating_add.result c.in-Some.ensures within
+    until c.steps_are_quiet.ensures c.begin.new.self c.args.script.now.list c.args.step c.in-Some.steps c.saturating_add.result
+    c.in-Some.ensures within

@@ -15,7 +15,8 @@ use Rattle.bare_machine.proofs.fresh.fresh_steps.Goals as goal
 
 pub loop-machine-init : goal.loop-machine-init
 loop-machine-init g c = record {
-  near = λ image. nears_none (bare image c.args.script.now.list c.args.machine.now.frames) c.args.n (state_of g.C.Cache.entries c.args.machine.now) (g.O.Sink.taken c.args.out.now);
+  near = λ image. nears_none (bare image c.args.script.now.list c.args.machine.now.frames) c.args.n
+      (state_of g.C.Cache.entries c.args.machine.now) (g.O.Sink.taken c.args.out.now);
   kept = c.requires.kept;
   frames = refl;
   same = refl;
@@ -23,9 +24,12 @@ loop-machine-init g c = record {
 }
 
 -- the slice's answer over as many frames as at the start
-sliced : (image : Image) (script : Events) (f f2 : ℕ) (exact : Bool) (n : ℕ) (old new : State) (told tells : Option (List ℕ)) (r s : Result Pause Failed) → f ≡ f2 → r ≡ s → SliceAs (bare image script f) exact n old new told tells r → SliceAs (bare image script f2) exact n old new told tells s
+sliced : (image : Image) (script : Events) (f f2 : ℕ) (exact : Bool) (n : ℕ) (old new : State) (told tells : Option (List ℕ))
+    (r s : Result Pause Failed) → f ≡ f2 → r ≡ s → SliceAs (bare image script f) exact n old new told tells r
+    → SliceAs (bare image script f2) exact n old new told tells s
 sliced image script f f2 exact n old new told tells r s same is h =
-    subst (λ (k : ℕ). SliceAs (bare image script k) exact n old new told tells s) same (subst (λ (x : Result Pause Failed). SliceAs (bare image script f) exact n old new told tells x) is h)
+    subst (λ (k : ℕ). SliceAs (bare image script k) exact n old new told tells s) same
+    (subst (λ (x : Result Pause Failed). SliceAs (bare image script f) exact n old new told tells x) is h)
 
 pub steps_to-requires-clause-kept : goal.steps_to-requires-clause-kept
 steps_to-requires-clause-kept g c = record {
@@ -41,9 +45,15 @@ loop-machine-preserved g c = record {
       let s = bare image c.args.script.now.list c.args.machine.now.frames in
       let first = state_of e c.args.machine.now in
       let x = e c.drop_all.new.kept.cache in
-      let near = nears_cleared s c.args.n first (state_of e m) x (g.O.Sink.taken c.args.out.now) (g.O.Sink.taken c.loop-machine.out) (c.loop-machine.invariant.near image) in
-      let h = sliced image c.args.script.now.list m.frames c.args.machine.now.frames (g.C.Cache.is_exact c.drop_all.new.kept.cache) (m.step + 1) (with_set (state_of e m) x) (state_of e c.steps_to.new.machine) (g.O.Sink.taken c.loop-machine.out) (g.O.Sink.taken c.steps_to.new.out) (Ok c.in-Ok.pause) (Ok Reached) c.loop-machine.invariant.frames (ap (λ (p : Pause). Ok p) c.in-Reached.is) (c.in-Ok.ensures.slice image) in
-      nears_on s (g.C.Cache.is_exact c.drop_all.new.kept.cache) c.args.n first (with_set (state_of e m) x) (state_of e c.steps_to.new.machine) (g.O.Sink.taken c.args.out.now) (g.O.Sink.taken c.loop-machine.out) (g.O.Sink.taken c.steps_to.new.out) c.drop_all.ensures.gone c.loop-machine-test.true near h;
+      let near = nears_cleared s c.args.n first (state_of e m) x (g.O.Sink.taken c.args.out.now) (g.O.Sink.taken c.loop-machine.out)
+      (c.loop-machine.invariant.near image) in
+      let h = sliced image c.args.script.now.list m.frames c.args.machine.now.frames (g.C.Cache.is_exact c.drop_all.new.kept.cache)
+      (m.step + 1) (with_set (state_of e m) x) (state_of e c.steps_to.new.machine) (g.O.Sink.taken c.loop-machine.out)
+      (g.O.Sink.taken c.steps_to.new.out) (Ok c.in-Ok.pause) (Ok Reached) c.loop-machine.invariant.frames
+      (ap (λ (p : Pause). Ok p) c.in-Reached.is) (c.in-Ok.ensures.slice image) in
+      nears_on s (g.C.Cache.is_exact c.drop_all.new.kept.cache) c.args.n first (with_set (state_of e m) x)
+      (state_of e c.steps_to.new.machine) (g.O.Sink.taken c.args.out.now) (g.O.Sink.taken c.loop-machine.out)
+      (g.O.Sink.taken c.steps_to.new.out) c.drop_all.ensures.gone c.loop-machine-test.true near h;
   kept = (let on = rw c.in-Reached.is at c.in-Ok.ensures.goes_on in on.kept);
   frames = (let on = rw c.in-Reached.is at c.in-Ok.ensures.goes_on in on.frames ∙ c.loop-machine.invariant.frames);
   same = c.in-Ok.ensures.count ∙ c.loop-machine.invariant.same;
@@ -59,9 +69,15 @@ returns-in-Err g c = record {
       let first = state_of e c.args.machine.now in
       let x = e c.drop_all.new.kept.cache in
       let exact = g.C.Cache.is_exact c.drop_all.new.kept.cache in
-      let near = nears_cleared s c.args.n first (state_of e m) x (g.O.Sink.taken c.args.out.now) (g.O.Sink.taken c.loop-machine.out) (c.loop-machine.invariant.near image) in
-      let h = sliced image c.args.script.now.list m.frames c.args.machine.now.frames exact (m.step + 1) (with_set (state_of e m) x) (state_of e c.steps_to.new.machine) (g.O.Sink.taken c.loop-machine.out) (g.O.Sink.taken c.steps_to.new.out) (Err c.in-Err.failed) (Err c.in-Err.failed) c.loop-machine.invariant.frames refl (c.in-Err.ensures.slice image) in
-      failed_from_start s exact c.args.n first (with_set (state_of e m) x) (state_of e c.steps_to.new.machine) (g.O.Sink.taken c.args.out.now) (g.O.Sink.taken c.loop-machine.out) (g.O.Sink.taken c.steps_to.new.out) c.in-Err.failed (g.O.Sink.faults c.args.out.now) (g.O.Sink.faults c.loop-machine.out) (g.O.Sink.faults c.steps_to.new.out) c.requires.begin c.drop_all.ensures.gone c.loop-machine-test.true near h c.loop-machine.invariant.same c.in-Err.ensures.cause;
+      let near = nears_cleared s c.args.n first (state_of e m) x (g.O.Sink.taken c.args.out.now) (g.O.Sink.taken c.loop-machine.out)
+      (c.loop-machine.invariant.near image) in
+      let h = sliced image c.args.script.now.list m.frames c.args.machine.now.frames exact (m.step + 1) (with_set (state_of e m) x)
+      (state_of e c.steps_to.new.machine) (g.O.Sink.taken c.loop-machine.out) (g.O.Sink.taken c.steps_to.new.out) (Err c.in-Err.failed)
+      (Err c.in-Err.failed) c.loop-machine.invariant.frames refl (c.in-Err.ensures.slice image) in
+      failed_from_start s exact c.args.n first (with_set (state_of e m) x) (state_of e c.steps_to.new.machine)
+      (g.O.Sink.taken c.args.out.now) (g.O.Sink.taken c.loop-machine.out) (g.O.Sink.taken c.steps_to.new.out) c.in-Err.failed
+      (g.O.Sink.faults c.args.out.now) (g.O.Sink.faults c.loop-machine.out) (g.O.Sink.faults c.steps_to.new.out) c.requires.begin
+      c.drop_all.ensures.gone c.loop-machine-test.true near h c.loop-machine.invariant.same c.in-Err.ensures.cause;
 }
 
 pub returns-in-Stopped : goal.returns-in-Stopped
@@ -73,9 +89,15 @@ returns-in-Stopped g c = record {
       let first = state_of e c.args.machine.now in
       let x = e c.drop_all.new.kept.cache in
       let exact = g.C.Cache.is_exact c.drop_all.new.kept.cache in
-      let near = nears_cleared s c.args.n first (state_of e m) x (g.O.Sink.taken c.args.out.now) (g.O.Sink.taken c.loop-machine.out) (c.loop-machine.invariant.near image) in
-      let h = sliced image c.args.script.now.list m.frames c.args.machine.now.frames exact (m.step + 1) (with_set (state_of e m) x) (state_of e c.steps_to.new.machine) (g.O.Sink.taken c.loop-machine.out) (g.O.Sink.taken c.steps_to.new.out) (Ok c.in-Ok.pause) (Ok (Stopped c.in-Stopped.stop)) c.loop-machine.invariant.frames (ap (λ (p : Pause). Ok p) c.in-Stopped.is) (c.in-Ok.ensures.slice image) in (
-        stopped_from_start s exact c.args.n first (with_set (state_of e m) x) (state_of e c.steps_to.new.machine) (g.O.Sink.taken c.args.out.now) (g.O.Sink.taken c.loop-machine.out) (g.O.Sink.taken c.steps_to.new.out) c.in-Stopped.stop c.requires.begin c.drop_all.ensures.gone c.loop-machine-test.true near h,
+      let near = nears_cleared s c.args.n first (state_of e m) x (g.O.Sink.taken c.args.out.now) (g.O.Sink.taken c.loop-machine.out)
+      (c.loop-machine.invariant.near image) in
+      let h = sliced image c.args.script.now.list m.frames c.args.machine.now.frames exact (m.step + 1) (with_set (state_of e m) x)
+      (state_of e c.steps_to.new.machine) (g.O.Sink.taken c.loop-machine.out) (g.O.Sink.taken c.steps_to.new.out) (Ok c.in-Ok.pause)
+      (Ok (Stopped c.in-Stopped.stop)) c.loop-machine.invariant.frames (ap (λ (p : Pause). Ok p) c.in-Stopped.is)
+      (c.in-Ok.ensures.slice image) in (
+        stopped_from_start s exact c.args.n first (with_set (state_of e m) x) (state_of e c.steps_to.new.machine)
+            (g.O.Sink.taken c.args.out.now) (g.O.Sink.taken c.loop-machine.out) (g.O.Sink.taken c.steps_to.new.out) c.in-Stopped.stop
+            c.requires.begin c.drop_all.ensures.gone c.loop-machine-test.true near h,
         c.in-Ok.ensures.count ∙ c.loop-machine.invariant.same,
       );
 }
@@ -85,7 +107,9 @@ returns g c = record {
   steps = λ image.
       let e = g.C.Cache.entries in
       let m = c.loop-machine.machine in (
-        bound_from_start (bare image c.args.script.now.list c.args.machine.now.frames) c.args.n (state_of e c.args.machine.now) (state_of e m) (g.O.Sink.taken c.args.out.now) (g.O.Sink.taken c.loop-machine.out) c.requires.begin (omega (arith, c.loop-machine-test.false)) (c.loop-machine.invariant.near image),
+        bound_from_start (bare image c.args.script.now.list c.args.machine.now.frames) c.args.n (state_of e c.args.machine.now)
+            (state_of e m) (g.O.Sink.taken c.args.out.now) (g.O.Sink.taken c.loop-machine.out) c.requires.begin
+            (omega (arith, c.loop-machine-test.false)) (c.loop-machine.invariant.near image),
         c.loop-machine.invariant.same,
       );
 }

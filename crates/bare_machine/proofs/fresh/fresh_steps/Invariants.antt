@@ -7,7 +7,8 @@ use Rattle.bare_machine.proofs.fresh.fresh_steps.Given as goal
 
 abbrev pub invariant-loop-machine : goal.invariant-loop-machine
 invariant-loop-machine g l = record {
-  near : (image : Image) → Nears (bare image l.script.list l.fn.machine.frames) l.n (state_of g.C.Cache.entries l.fn.machine) (state_of g.C.Cache.entries l.machine) (g.O.Sink.taken l.fn.out) (g.O.Sink.taken l.out);
+  near : (image : Image) → Nears (bare image l.script.list l.fn.machine.frames) l.n (state_of g.C.Cache.entries l.fn.machine)
+      (state_of g.C.Cache.entries l.machine) (g.O.Sink.taken l.fn.out) (g.O.Sink.taken l.out);
   kept : IsKept l.machine.frames (state_of g.C.Cache.entries l.machine);
   frames : l.machine.frames ≡ l.fn.machine.frames;
   same : g.O.Sink.faults l.out ≡ g.O.Sink.faults l.fn.out;

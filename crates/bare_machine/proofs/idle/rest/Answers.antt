@@ -5,13 +5,15 @@ use Rattle.bare_machine.proofs.Resting.{rests_none, rests_some, kept_rests_none,
 use Rattle.bare_machine.proofs.idle.rest.Goals as goal
 
 pub returns-else-k-gt0-clause-rests : goal.returns-else-k-gt0-clause-rests
-returns-else-k-gt0-clause-rests g c = λ image whole part. rests_none (bare image c.args.script.now.list c.args.machine.now.frames) (state_of g.C.Cache.entries c.args.machine.now) whole part
+returns-else-k-gt0-clause-rests g c = λ image whole part. rests_none (bare image c.args.script.now.list c.args.machine.now.frames)
+    (state_of g.C.Cache.entries c.args.machine.now) whole part
 
 pub returns-then-k-gt0-clause-rests : goal.returns-then-k-gt0-clause-rests
 returns-then-k-gt0-clause-rests g c = λ image whole part.
     let m = c.args.machine.now in
     let s = bare image c.args.script.now.list m.frames in
-    rw c.advance.ensures (rests_some c.halted_steps_rest.ensures c.resting_steps-k.result s (state_of g.C.Cache.entries m) whole c.requires.begun c.resting_steps-k.ensures.held c.resting_steps-k.ensures.sleeps part)
+    rw c.advance.ensures (rests_some c.halted_steps_rest.ensures c.resting_steps-k.result s (state_of g.C.Cache.entries m) whole
+    c.requires.begun c.resting_steps-k.ensures.held c.resting_steps-k.ensures.sleeps part)
 
 pub returns-else-k-gt0-clause-furthest : goal.returns-else-k-gt0-clause-furthest
 returns-else-k-gt0-clause-furthest g c = λ halted held none less.
@@ -38,10 +40,12 @@ returns-then-k-gt0-clause-past_edges g c = λ halted held none asleep less.
     rw same (c.resting_steps-k.ensures.past_edges halted held none asleep (omega (arith, less)))
 
 pub returns-else-k-gt0-clause-kept : goal.returns-else-k-gt0-clause-kept
-returns-else-k-gt0-clause-kept g c = λ image. kept_rests_none g.C.Cache.keeping (bare image c.args.script.now.list c.args.machine.now.frames) (state_of g.C.Cache.entries c.args.machine.now)
+returns-else-k-gt0-clause-kept g c = λ image. kept_rests_none g.C.Cache.keeping
+    (bare image c.args.script.now.list c.args.machine.now.frames) (state_of g.C.Cache.entries c.args.machine.now)
 
 pub returns-then-k-gt0-clause-kept : goal.returns-then-k-gt0-clause-kept
 returns-then-k-gt0-clause-kept g c = λ image.
     let m = c.args.machine.now in
     let s = bare image c.args.script.now.list m.frames in
-    rw c.advance.ensures (kept_some c.halted_steps_rest.ensures g.C.Cache.keeping c.resting_steps-k.result s (state_of g.C.Cache.entries m) c.requires.begun c.resting_steps-k.ensures.held c.resting_steps-k.ensures.sleeps)
+    rw c.advance.ensures (kept_some c.halted_steps_rest.ensures g.C.Cache.keeping c.resting_steps-k.result s (state_of g.C.Cache.entries m)
+    c.requires.begun c.resting_steps-k.ensures.held c.resting_steps-k.ensures.sleeps)

@@ -13,13 +13,16 @@ returns-then-is_change-clause-kept g c =
     let old = g.C.Cache.entries c.args.kept.now.cache in
     c.settle.ensures.made
     ∙ (ap (made_in g.C.Cache.keeping old) c.requires.one
-    ∙ (kept_one g.C.Cache.keeping g.met.C.Cache.again old c.args.change c.args.pages.now (sym c.is_change.ensures ∙ c.if-is_change.true) (subst (AreToldIn c.args.pages.now) c.requires.one c.requires.told)
+    ∙ (kept_one g.C.Cache.keeping g.met.C.Cache.again old c.args.change c.args.pages.now (sym c.is_change.ensures ∙ c.if-is_change.true)
+    (subst (AreToldIn c.args.pages.now) c.requires.one c.requires.told)
     ∙ ap (λ (cs : List Change). kept_after g.C.Cache.keeping old c.args.pages.now (changed old cs)) (sym c.requires.one)))
 
-same : (g : Over) (c : goal.Else-is_change g) → g.C.Cache.entries c.args.kept.now.cache ≡ changed (g.C.Cache.entries c.args.kept.now.cache) c.args.changes.now
+same : (g : Over) (c : goal.Else-is_change g) → g.C.Cache.entries c.args.kept.now.cache ≡ changed
+    (g.C.Cache.entries c.args.kept.now.cache) c.args.changes.now
 same g c =
     let old = g.C.Cache.entries c.args.kept.now.cache in
-    one_same old c.args.change (sym c.is_change.ensures ∙ c.if-is_change.false) ∙ ap (λ (cs : List Change). changed old cs) (sym c.requires.one)
+    one_same old c.args.change (sym c.is_change.ensures ∙ c.if-is_change.false)
+    ∙ ap (λ (cs : List Change). changed old cs) (sym c.requires.one)
 
 pub returns-else-is_change-clause-kept : goal.returns-else-is_change-clause-kept
 returns-else-is_change-clause-kept g c =

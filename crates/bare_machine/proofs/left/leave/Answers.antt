@@ -15,4 +15,5 @@ returns-then-is_empty-clause-kept g c =
     let old = g.C.Cache.entries c.args.kept.now.cache in
     c.drop_from.ensures.all
     ∙ (kept_unchanged g.C.Cache.keeping c.args.dropped old c.args.pages.now
-    ∙ ap (λ (cs : List Change). kept_after g.C.Cache.keeping old c.args.pages.now (dropping c.args.dropped (changed old cs))) (sym (none g c)))
+    ∙ ap (λ (cs : List Change). kept_after g.C.Cache.keeping old c.args.pages.now (dropping c.args.dropped (changed old cs)))
+    (sym (none g c)))

@@ -6,4 +6,5 @@ use Rattle.bare_machine.proofs.left.new_entries.Given as goal
 
 abbrev pub invariant-loop-page : goal.invariant-loop-page
 invariant-loop-page g l =
-    Listed (g.C.Cache.entries l.cache) (dropping l.dropped (changed (g.C.Cache.entries l.cache) l.changes)) (take l.page-index l.pages) l.entries l.page-index
+    Listed (g.C.Cache.entries l.cache) (dropping l.dropped (changed (g.C.Cache.entries l.cache) l.changes)) (take l.page-index l.pages)
+    l.entries l.page-index

@@ -7,7 +7,8 @@ pub returns-clause-memory : goal.returns-clause-memory
 returns-clause-memory g c = rw c.step_again.ensures.stays.1 refl
 
 pub returns-clause-comes : goal.returns-clause-comes
-returns-clause-comes g c = λ image script b. c.step_again.ensures.step (bare image script c.args.frames) b (record { has = refl; over = tt })
+returns-clause-comes g c =
+    λ image script b. c.step_again.ensures.step (bare image script c.args.frames) b (record { has = refl; over = tt })
 
 -- nothing that lies past the frames changed, so memory is as long as it was
 pub returns-clause-size : goal.returns-clause-size
@@ -21,7 +22,8 @@ returns-clause-size g c =
     omega (arith, e, length-drop n c.step_again.new.ram, length-drop n c.args.ram.now, room, frames, before)
 
 pub returns-clause-raised : goal.returns-clause-raised
-returns-clause-raised g c = λ image script b. c.step_again.ensures.raised (bare image script c.args.frames) b (record { has = refl; over = tt })
+returns-clause-raised g c =
+    λ image script b. c.step_again.ensures.raised (bare image script c.args.frames) b (record { has = refl; over = tt })
 
 pub returns-clause-told : goal.returns-clause-told
 returns-clause-told g c = c.step_again.ensures.sound.told
@@ -30,4 +32,5 @@ pub returns-clause-few : goal.returns-clause-few
 returns-clause-few g c = omega (arith, c.step_again.ensures.sound.visits, c.step_again.ensures.sound.few)
 
 pub returns-clause-leaves : goal.returns-clause-leaves
-returns-clause-leaves g c = λ image script b. c.step_again.ensures.leaves (bare image script c.args.frames) b (record { has = refl; over = tt })
+returns-clause-leaves g c =
+    λ image script b. c.step_again.ensures.leaves (bare image script c.args.frames) b (record { has = refl; over = tt })

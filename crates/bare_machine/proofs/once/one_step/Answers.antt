@@ -22,14 +22,16 @@ returns-in-Ok-clause-once g c = λ image.
       items = sym goes.items;
       raised = c.step-result.ensures.raised image;
       count = c.in-Ok.ensures.count;
-      passes = passes_once (bare image c.args.script.now.list m.frames) (g.C.Cache.is_exact m.kept.cache) (state_of e m) (state_of e c.step-result.new.machine) (whats c.in-Ok.seen) goes;
+      passes = passes_once (bare image c.args.script.now.list m.frames) (g.C.Cache.is_exact m.kept.cache) (state_of e m)
+          (state_of e c.step-result.new.machine) (whats c.in-Ok.seen) goes;
     }
 
 pub returns-in-Ok-clause-fit : goal.returns-in-Ok-clause-fit
 returns-in-Ok-clause-fit g c = λ fit.
     let m = c.args.machine.now in
     let e = g.C.Cache.entries in
-    fit_once c.runs_keep_fit.ensures (bare any_image c.args.script.now.list m.frames) (g.C.Cache.is_exact m.kept.cache) (state_of e m) (state_of e c.step-result.new.machine) (whats c.in-Ok.seen)
+    fit_once c.runs_keep_fit.ensures (bare any_image c.args.script.now.list m.frames) (g.C.Cache.is_exact m.kept.cache) (state_of e m)
+    (state_of e c.step-result.new.machine) (whats c.in-Ok.seen)
     (c.in-Ok.ensures.step any_image) fit c.segment_count.ensures.four
 
 pub returns-in-Err-clause-once : goal.returns-in-Err-clause-once

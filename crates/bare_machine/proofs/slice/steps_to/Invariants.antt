@@ -9,8 +9,10 @@ use Rattle.bare_machine.proofs.slice.steps_to.Given as goal
 
 abbrev pub invariant-loop-machine : goal.invariant-loop-machine
 invariant-loop-machine g l = record {
-  going : (image : Image) → Going (bare image l.script.list l.fn.machine.frames) (g.C.Cache.is_exact l.fn.machine.kept.cache) (state_of g.C.Cache.entries l.fn.machine) (state_of g.C.Cache.entries l.machine) (g.O.Sink.taken l.fn.out) (g.O.Sink.taken l.out);
-  near : (image : Image) → KeptGoing g.C.Cache.keeping (bare image l.script.list l.fn.machine.frames) (state_of g.C.Cache.entries l.fn.machine) (state_of g.C.Cache.entries l.machine) (g.O.Sink.taken l.fn.out) (g.O.Sink.taken l.out);
+  going : (image : Image) → Going (bare image l.script.list l.fn.machine.frames) (g.C.Cache.is_exact l.fn.machine.kept.cache)
+      (state_of g.C.Cache.entries l.fn.machine) (state_of g.C.Cache.entries l.machine) (g.O.Sink.taken l.fn.out) (g.O.Sink.taken l.out);
+  near : (image : Image) → KeptGoing g.C.Cache.keeping (bare image l.script.list l.fn.machine.frames)
+      (state_of g.C.Cache.entries l.fn.machine) (state_of g.C.Cache.entries l.machine) (g.O.Sink.taken l.fn.out) (g.O.Sink.taken l.out);
   goes_on : GoesOn g.C.Cache.entries g.C.Cache.is_exact l.fn.machine l.machine;
   kept : g.O.Sink.faults l.out ≡ g.O.Sink.faults l.fn.out;
   bound : l.machine.step ≤ l.bound;

@@ -11,5 +11,8 @@ returns-clause-one g c = λ one image.
 
 pub returns-clause-fit : goal.returns-clause-fit
 returns-clause-fit g c = λ fit.
-    fit_behind c.runs_keep_fit.ensures (bare any_image c.args.script.now.list c.args.machine.now.frames) (g.C.Cache.is_exact c.args.machine.now.kept.cache) (c.args.machine.now.step + c.args.k) (state_of g.C.Cache.entries c.args.machine.now) (state_of g.C.Cache.entries c.steps_to.new.machine)
-    (g.O.Sink.taken c.args.out.now) (g.O.Sink.taken c.steps_to.new.out) c.steps_to.result (c.steps_to.ensures.slice any_image) fit c.segment_count.ensures.four
+    fit_behind c.runs_keep_fit.ensures (bare any_image c.args.script.now.list c.args.machine.now.frames)
+    (g.C.Cache.is_exact c.args.machine.now.kept.cache) (c.args.machine.now.step + c.args.k) (state_of g.C.Cache.entries c.args.machine.now)
+    (state_of g.C.Cache.entries c.steps_to.new.machine)
+    (g.O.Sink.taken c.args.out.now) (g.O.Sink.taken c.steps_to.new.out) c.steps_to.result (c.steps_to.ensures.slice any_image) fit
+    c.segment_count.ensures.four

@@ -10,7 +10,9 @@ use Rattle.bare_mem.proofs.kept.drop_dir.Goals as goal
 pub returns-clause-part : goal.returns-clause-part
 returns-clause-part g c = λ whole h.
     let old = g.C.Cache.entries c.args.kept.now.cache in
-    subst (λ (m : FinMap nat_cmp Entry). IsPartOf m (without_dir whole c.args.index)) (sym (dir_turned old _ c.args.index c.drop_dir.ensures.gone c.drop_dir.ensures.others)) (dir_part old whole c.args.index h)
+    subst (λ (m : FinMap nat_cmp Entry). IsPartOf m (without_dir whole c.args.index))
+    (sym (dir_turned old _ c.args.index c.drop_dir.ensures.gone c.drop_dir.ensures.others)) (dir_part old whole c.args.index h)
 
 pub returns-clause-exact : goal.returns-clause-exact
-returns-clause-exact g c = dir_turned (g.C.Cache.entries c.args.kept.now.cache) _ c.args.index c.drop_dir.ensures.gone c.drop_dir.ensures.others
+returns-clause-exact g c =
+    dir_turned (g.C.Cache.entries c.args.kept.now.cache) _ c.args.index c.drop_dir.ensures.gone c.drop_dir.ensures.others

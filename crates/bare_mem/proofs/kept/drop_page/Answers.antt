@@ -8,4 +8,5 @@ returns-clause-part g c = λ whole h.
     part_turned old _ whole c.args.page None c.drop_page.ensures.gone (same_others old _ c.args.page c.drop_page.ensures.others) h
 
 pub returns-clause-exact : goal.returns-clause-exact
-returns-clause-exact g c = all_turned (g.C.Cache.entries c.args.kept.now.cache) _ c.args.page None c.drop_page.ensures.gone c.drop_page.ensures.others
+returns-clause-exact g c =
+    all_turned (g.C.Cache.entries c.args.kept.now.cache) _ c.args.page None c.drop_page.ensures.gone c.drop_page.ensures.others

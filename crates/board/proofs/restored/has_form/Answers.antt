@@ -6,10 +6,12 @@ pub returns-clause-form : goal.returns-clause-form
 returns-clause-form c = c.are_met.ensures ∙ sym (form_is c.args.bytes.now)
 
 pub returns-clause-pics : goal.returns-clause-pics
-returns-clause-pics c = λ (met : c.are_met.result ≡ true). form_pics c.args.bytes.now (form_is c.args.bytes.now ∙ (sym c.are_met.ensures ∙ met))
+returns-clause-pics c =
+    λ (met : c.are_met.result ≡ true). form_pics c.args.bytes.now (form_is c.args.bytes.now ∙ (sym c.are_met.ensures ∙ met))
 
 pub returns-clause-pit : goal.returns-clause-pit
-returns-clause-pit c = λ (met : c.are_met.result ≡ true). form_count c.args.bytes.now (form_is c.args.bytes.now ∙ (sym c.are_met.ensures ∙ met))
+returns-clause-pit c =
+    λ (met : c.are_met.result ≡ true). form_count c.args.bytes.now (form_is c.args.bytes.now ∙ (sym c.are_met.ensures ∙ met))
 
 pub returns-clause-uart : goal.returns-clause-uart
 returns-clause-uart c =

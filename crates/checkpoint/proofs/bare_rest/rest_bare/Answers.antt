@@ -62,9 +62,16 @@ returns-in-Err-put_end g c = record {
       let tells = g.O.Sink.taken c.slice.new.out in
       let h = subst (λ (n : ℕ). SliceAs m exact n old new told tells (Ok c.in-Ok.pause)) is (c.in-Ok.ensures.slice image) in
       let stopped = subst (λ (p : Pause). SliceAs m exact c.args.n old new told tells (Ok p)) c.in-Stopped.is h in
-      let put = subst (λ (k : ℕ). AppendsFront tells (g.O.Sink.taken c.put_end.new.out) (end_line k (ends.Stopped c.in-Stopped.stop))) c.step-steps.ensures c.in-Err-put_end.ensures.failed in
-      let f = bare_unput m exact c.args.n old new told tells _ c.in-Stopped.stop stopped put in
-      (f.0, f.1, f.2, f.3, f.4, subst (λ (k : ℕ). Rose k (g.O.Sink.faults c.put_end.new.out)) c.in-Ok.ensures.count c.in-Err-put_end.ensures.cause);
+      let put = subst (λ (k : ℕ). AppendsFront tells (g.O.Sink.taken c.put_end.new.out) (end_line k (ends.Stopped c.in-Stopped.stop)))
+      c.step-steps.ensures c.in-Err-put_end.ensures.failed in
+      let f = bare_unput m exact c.args.n old new told tells _ c.in-Stopped.stop stopped put in (
+        f.0,
+        f.1,
+        f.2,
+        f.3,
+        f.4,
+        subst (λ (k : ℕ). Rose k (g.O.Sink.faults c.put_end.new.out)) c.in-Ok.ensures.count c.in-Err-put_end.ensures.cause,
+      );
 }
 
 pub returns : goal.returns
@@ -81,7 +88,8 @@ returns g c = record {
       let tells = g.O.Sink.taken c.slice.new.out in
       let h = subst (λ (n : ℕ). SliceAs m exact n old new told tells (Ok c.in-Ok.pause)) is (c.in-Ok.ensures.slice image) in
       let stopped = subst (λ (p : Pause). SliceAs m exact c.args.n old new told tells (Ok p)) c.in-Stopped.is h in
-      let put = subst (λ (k : ℕ). Appends tells (g.O.Sink.taken c.put_end.new.out) (end_line k (ends.Stopped c.in-Stopped.stop))) c.step-steps.ensures c.in-Ok-put_end.ensures.ok in
+      let put = subst (λ (k : ℕ). Appends tells (g.O.Sink.taken c.put_end.new.out) (end_line k (ends.Stopped c.in-Stopped.stop)))
+      c.step-steps.ensures c.in-Ok-put_end.ensures.ok in
       let r = bare_stops m exact c.args.n old new told tells _ c.in-Stopped.stop stopped put in
       (r.0, c.in-Stopped.stop, r.1, r.2, c.step-steps.ensures ∙ r.3, refl, r.4, c.in-Ok-put_end.ensures.kept ∙ c.in-Ok.ensures.count, refl);
 }

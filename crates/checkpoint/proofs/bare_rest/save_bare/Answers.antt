@@ -11,7 +11,8 @@ use Rattle.checkpoint.proofs.bare_rest.save_bare.Goals as goal
 pub rest_bare-requires-clause-fit : goal.rest_bare-requires-clause-fit
 rest_bare-requires-clause-fit g c =
     let script = c.args.script.now.list in
-    subst (λ (b : model.State). Fit b.cpu) (sym (c.in-Ok.ensures.started.4 script)) (c.each_run_begins_fit.ensures (bare c.args.image.now script c.args.frames))
+    subst (λ (b : model.State). Fit b.cpu) (sym (c.in-Ok.ensures.started.4 script))
+    (c.each_run_begins_fit.ensures (bare c.args.image.now script c.args.frames))
 
 pub returns-in-Ok : goal.returns-in-Ok
 returns-in-Ok g c =
@@ -23,7 +24,8 @@ returns-in-Ok g c =
     let before = g.O.Sink.faults c.args.out.now in
     let now = g.O.Sink.faults c.rest_bare.new.out in
     let first = state_of (λ (b : Buffer). b) c.in-Ok.machine in
-    let ran = subst (λ (f : ℕ). RestsAs (bare image script f) c.args.n first no_counts told tells before now c.rest_bare.result) started.1 (c.rest_bare.ensures.rests image) in
+    let ran = subst (λ (f : ℕ). RestsAs (bare image script f) c.args.n first no_counts told tells before now c.rest_bare.result) started.1
+    (c.rest_bare.ensures.rests image) in
     let m = bare image script c.args.frames in
     record {
       rests = from_start m c.args.n no_counts told tells before now c.rest_bare.result started.0

@@ -18,7 +18,9 @@ returns g c = record {
       let before = g.O.Sink.faults c.args.out.now in
       let now = g.O.Sink.faults c.rest_bare.new.out in
       let first = state_of (λ (b : Buffer). b) machine in
-      let ran = subst (λ (f : ℕ). RestsAs (bare image script f) c.args.n first no_counts told tells before now c.rest_bare.result) frames (c.rest_bare.ensures.rests image) in
-      subst (λ (b : model.State). RestsAs (bare image script (length c.args.state.ram / 4096)) c.args.n b no_counts told tells before now c.rest_bare.result)
+      let ran = subst (λ (f : ℕ). RestsAs (bare image script f) c.args.n first no_counts told tells before now c.rest_bare.result) frames
+      (c.rest_bare.ensures.rests image) in
+      subst (λ (b : model.State). RestsAs (bare image script (length c.args.state.ram / 4096)) c.args.n b no_counts told tells before
+      now c.rest_bare.result)
       c.bare_from-machine.ensures.state ran;
 }

@@ -9,4 +9,5 @@ loop-demand-preserved c =
     ∙ c.loop-demand.invariant
 
 pub returns : goal.returns
-returns c = sym (first_bad-end c.args.there c.args.demands.now c.loop-demand.demand-index c.loop-demand.first c.loop-demand-test.false) ∙ c.loop-demand.invariant
+returns c = sym (first_bad-end c.args.there c.args.demands.now c.loop-demand.demand-index c.loop-demand.first c.loop-demand-test.false)
+    ∙ c.loop-demand.invariant

@@ -5,7 +5,8 @@ use Rattle.checkpoint.proofs.demand.first_set.Goals.{else-b-ne0-via-then-b-ne0+e
 
 pub returns-then-place-there : goal.returns-then-place-there
 returns-then-place-there c =
-    sym (set_here c.args.at c.args.there c.loop-i.i c.args.bytes.now c.loop-i-test.true c.if-b-ne0.true c.if-place-there.true) ∙ c.loop-i.invariant
+    sym (set_here c.args.at c.args.there c.loop-i.i c.args.bytes.now c.loop-i-test.true c.if-b-ne0.true c.if-place-there.true)
+    ∙ c.loop-i.invariant
 
 pub loop-i-preserved : goal.loop-i-preserved
 loop-i-preserved c = elim c.else-b-ne0.branch [

@@ -17,15 +17,18 @@ returns-then-at-len-clause-place c = elim c.then-at-len.branch [
   | then-at-len-via-else-at-len+then-read8-b w ↦
       let count = c.len-len.ensures.count in
       let near = w.if-at-len.false in
-      sym (change_at c.args.ram.now c.args.text.now c.loop-i.i w.read8.result c.loop-i-test.true (omega arith) w.read8.ensures w.if-read8-b.true) ∙ c.loop-i.invariant.0
+      sym (change_at c.args.ram.now c.args.text.now c.loop-i.i w.read8.result c.loop-i-test.true (omega arith) w.read8.ensures
+      w.if-read8-b.true) ∙ c.loop-i.invariant.0
 ]
 
 pub loop-i-preserved : goal.loop-i-preserved
 loop-i-preserved c =
     let count = c.len-len.ensures.count in
     let near = c.if-at-len.false in (
-      sym (no_change c.args.ram.now c.args.text.now c.loop-i.i c.read8.result c.loop-i-test.true (omega arith) c.read8.ensures c.if-read8-b.false) ∙ c.loop-i.invariant.0,
-      part_more c.args.ram.now c.args.text.now c.loop-i.i c.read8.result c.loop-i-test.true (omega arith) c.read8.ensures c.if-read8-b.false c.loop-i.invariant.1,
+      sym (no_change c.args.ram.now c.args.text.now c.loop-i.i c.read8.result c.loop-i-test.true (omega arith) c.read8.ensures
+          c.if-read8-b.false) ∙ c.loop-i.invariant.0,
+      part_more c.args.ram.now c.args.text.now c.loop-i.i c.read8.result c.loop-i-test.true (omega arith) c.read8.ensures c.if-read8-b.false
+          c.loop-i.invariant.1,
     )
 
 pub returns-clause-place : goal.returns-clause-place

@@ -18,7 +18,8 @@ returns-clause-state g c = λ script.
     let ram : c.in_ok-ram.ram ≡ with_part (take (4096 * guest.frames) host) 0x100000 text =
     c.in_ok-ram.ensures.ram ∙ (ap (λ (m : List ℕ). with_part (take (4096 * taken.frames) m) 0x100000 text) c.ram.ensures
     ∙ ap (λ (r : Running Roots). with_part (take (4096 * r.frames) host) 0x100000 text) same) in
-    ap (λ (r : Running Roots). let made : State = record { cpu = r.cpu; board = r.board; step = r.step; ram = c.in_ok-ram.ram } in made) same
+    ap (λ (r : Running Roots). let made : State = record { cpu = r.cpu; board = r.board; step = r.step; ram = c.in_ok-ram.ram } in made)
+    same
     ∙ ap (λ (x : List ℕ). let made : State = record { cpu = guest.cpu; board = guest.board; step = guest.step; ram = x } in made) ram
 
 pub returns-clause-kept : goal.returns-clause-kept

@@ -25,7 +25,8 @@ returns-in-Err-state_of_guest g c =
     let same = c.in-Ok.ensures.leaves.frames in
     let form = subst (λ (f : ℕ). IsInForm (kept_of (there f))) same (c.in-Err-state_of_guest.ensures.kept script) in
     let size = subst (λ (f : ℕ). length (there f).ram ≡ 4096 * f) same (c.in-Err-state_of_guest.ensures.size script) in
-    let t = guest_rests _ _ c.in-Ok.pause c.in-Reached.is (at_bound _ c.args.n _ is c.in-Ok.ensures.slice) c.in-Ok.ensures.faults.kept form size in
+    let t = guest_rests _ _ c.in-Ok.pause c.in-Reached.is (at_bound _ c.args.n _ is c.in-Ok.ensures.slice)
+    c.in-Ok.ensures.faults.kept form size in
     record { rests = inr (t.0, t.1) }
 
 pub returns-in-Reached : goal.returns-in-Reached
@@ -38,7 +39,8 @@ returns-in-Reached g c =
     let same = c.in-Ok.ensures.leaves.frames in
     let form = subst (λ (f : ℕ). IsInForm (kept_of (there f))) same (c.in-Ok-state_of_guest.ensures.kept script) in
     let size = subst (λ (f : ℕ). length (there f).ram ≡ 4096 * f) same (c.in-Ok-state_of_guest.ensures.size script) in
-    let t = guest_rests _ _ c.in-Ok.pause c.in-Reached.is (at_bound _ c.args.n _ is c.in-Ok.ensures.slice) c.in-Ok.ensures.faults.kept form size in
+    let t = guest_rests _ _ c.in-Ok.pause c.in-Reached.is (at_bound _ c.args.n _ is c.in-Ok.ensures.slice)
+    c.in-Ok.ensures.faults.kept form size in
     let made = subst (λ (f : ℕ). c.in-Ok-state_of_guest.state ≡ kept_of (there f)) same (c.in-Ok-state_of_guest.ensures.state script) in
     record { rests = (t.0, t.1, made ∙ t.2) }
 
@@ -56,6 +58,7 @@ returns g c =
     let asked = c.step.ensures in
     let is : c.args.guest.step + (c.args.n - c.step.result) ≡ c.args.n = omega (arith, asked, c.requires.begun) in
     let stopped = paused_so _ _ _ c.in-Stopped.is (at_bound _ c.args.n _ is c.in-Ok.ensures.slice) in
-    let t = guest_stops _ c.in-Stopped.stop c.step-in-Stopped.result c.fills.result c.fills.ensures c.requires.filled c.in-Ok.ensures.leaves.few
+    let t =
+    guest_stops _ c.in-Stopped.stop c.step-in-Stopped.result c.fills.result c.fills.ensures c.requires.filled c.in-Ok.ensures.leaves.few
     c.step-in-Stopped.ensures stopped c.in-Ok-put_end.ensures.ok in
     record { rests = (t.0, c.in-Stopped.stop, t.1, t.2, t.3, refl, t.4, c.in-Ok-put_end.ensures.kept ∙ c.in-Ok.ensures.faults.kept, t.5) }

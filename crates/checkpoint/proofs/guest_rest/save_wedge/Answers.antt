@@ -38,7 +38,9 @@ returns-in-Ok g c =
     let now = g.O.Sink.faults c.rest_wedge.new.out in
     let result = c.rest_wedge.result in
     let m = wedge image script c.args.frames in
-    let here = subst (λ (f : ℕ). RestsAs (wedge image script f) c.args.n (state_in of_roots (wedge image script f) first) (host_counts (wedge image script f) begun after) told tells fell now result)
+    let here =
+    subst (λ (f : ℕ). RestsAs (wedge image script f) c.args.n (state_in of_roots (wedge image script f) first)
+    (host_counts (wedge image script f) begun after) told tells fell now result)
     b.held.frames_are c.rest_wedge.ensures.rests in
     let at_boot = subst (λ (s : model.State). RestsAs m c.args.n s (host_counts m begun after) told tells fell now result) b.state here in
     let counted = subst (λ (x : Counts). RestsAs m c.args.n (model.boot m) (host_counts m x after) told tells fell now result)

@@ -30,9 +30,12 @@ returns-in-Ok g c =
     let now = g.O.Sink.faults c.rest_wedge.new.out in
     let result = c.rest_wedge.result in
     let m = wedge image script frames in
-    let here = subst (λ (f : ℕ). RestsAs (wedge image script f) c.args.n (state_in of_roots (wedge image script f) first) (host_counts (wedge image script f) begun after) told tells fell now result)
+    let here =
+    subst (λ (f : ℕ). RestsAs (wedge image script f) c.args.n (state_in of_roots (wedge image script f) first)
+    (host_counts (wedge image script f) begun after) told tells fell now result)
     goes.frames c.rest_wedge.ensures.rests in
-    let rested = subst (λ (s : model.State). RestsAs m c.args.n s (host_counts m begun after) told tells fell now result) (goes.state script) here in
+    let rested =
+    subst (λ (s : model.State). RestsAs m c.args.n s (host_counts m begun after) told tells fell now result) (goes.state script) here in
     record {
       rests = subst (λ (x : Counts). RestsAs m c.args.n (rested_from c.args.state) (host_counts m x after) told tells fell now result)
           (λ i. record { retired = c.guest_from.ensures.counts.retired i; passed = c.guest_from.ensures.counts.passed i }) rested;

@@ -37,7 +37,8 @@ returns-in-Ok g c =
     let memory = g.H.Host.bytes c.whole.new.host in
     let result = c.whole.result in
     let m = wedge image script frames in
-    let here = subst (λ (f : ℕ). WedgeGoesTo (wedge image script f) c.args.n (state_in of_roots (wedge image script f) first) over memory result)
+    let here =
+    subst (λ (f : ℕ). WedgeGoesTo (wedge image script f) c.args.n (state_in of_roots (wedge image script f) first) over memory result)
     goes.frames c.whole.ensures.whole in
     let rested = subst (λ (s : model.State). WedgeGoesTo m c.args.n s over memory result) (goes.state script) here in
     let counted : Counts → Around = λ x. record over { counts = x } in

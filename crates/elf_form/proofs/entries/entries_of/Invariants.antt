@@ -8,6 +8,8 @@ use Rattle.elf_form.proofs.entries.entries_of.Given as goal
 
 abbrev pub invariant-loop-i : goal.invariant-loop-i
 invariant-loop-i l = record {
-  items : l.out.items ++ flat_map (relocs_in l.bytes) (filter (is_reloc_section_of l.role l.names l.bytes) (entries (l.table + 40 * l.i) 40 (l.count - l.i))) ≡ flat_map (relocs_in l.bytes) (filter (is_reloc_section_of l.role l.names l.bytes) (entries l.table 40 l.count));
+  items : l.out.items ++ flat_map (relocs_in l.bytes)
+      (filter (is_reloc_section_of l.role l.names l.bytes) (entries (l.table + 40 * l.i) 40 (l.count - l.i))) ≡ flat_map (relocs_in l.bytes)
+      (filter (is_reloc_section_of l.role l.names l.bytes) (entries l.table 40 l.count));
   inside : All (IsEntry l.bytes) l.out.items;
 }

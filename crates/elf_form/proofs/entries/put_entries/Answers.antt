@@ -13,7 +13,8 @@ loop-i-preserved c =
     let count = length c.contents.result.now / 8 in
     let at = c.word-first.result + 8 * c.loop-i.i in
     let more = ap (map (entry c.args.s)) (entries-more c.word-first.result 8 count c.loop-i.i c.loop-i-test.true) in
-    let end : word32 c.args.bytes.now (c.args.s + 16) + length c.contents.result.now ≤ length c.args.bytes.now = c.contents.ensures.inside (omega arith) in
+    let end : word32 c.args.bytes.now (c.args.s + 16) + length c.contents.result.now ≤ length c.args.bytes.now =
+    c.contents.ensures.inside (omega arith) in
     let inside : IsEntry c.args.bytes.now (entry c.args.s at) = record { section = c.requires.section.0; at = omega arith } in
     rw c.in_ok-push.ensures.items (record {
       items = one_more c.loop-i.out.items (entry c.args.s at) _ _ more ∙ c.loop-i.invariant.items;

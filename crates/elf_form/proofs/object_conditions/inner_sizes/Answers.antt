@@ -27,8 +27,26 @@ joined_fault-bss-requires c = c.requires
 pub returns-clause-place : goal.returns-clause-place
 unfolding inner_sizes
 returns-clause-place c =
-    rw (c.lower-4.ensures, c.lower-3.ensures, c.lower-joined.ensures, c.lower-2.ensures, c.lower.ensures, c.then_some.ensures, c.then_some-2.ensures, c.half.ensures, c.half-2.ensures)
-    (rw (c.table_fault-table.ensures.place, c.sections_fault-relocs.ensures.place, c.joined_fault-init.ensures.place, c.joined_fault-bss.ensures.place, c.with_role.ensures.found, c.table_of.ensures.table, c.names-names.ensures) refl)
+    rw (
+      c.lower-4.ensures,
+      c.lower-3.ensures,
+      c.lower-joined.ensures,
+      c.lower-2.ensures,
+      c.lower.ensures,
+      c.then_some.ensures,
+      c.then_some-2.ensures,
+      c.half.ensures,
+      c.half-2.ensures,
+    )
+    (rw (
+      c.table_fault-table.ensures.place,
+      c.sections_fault-relocs.ensures.place,
+      c.joined_fault-init.ensures.place,
+      c.joined_fault-bss.ensures.place,
+      c.with_role.ensures.found,
+      c.table_of.ensures.table,
+      c.names-names.ensures,
+    ) refl)
 
 pub returns-clause-inside : goal.returns-clause-inside
 returns-clause-inside c =
@@ -36,4 +54,5 @@ returns-clause-inside c =
     lower_below n _ _ _ c.lower-4.ensures (then_below n 40 _ _ c.then_some.ensures (omega (arith, c.requires.header)))
     (lower_below n _ _ _ c.lower-3.ensures (then_below n 46 _ _ c.then_some-2.ensures (omega (arith, c.requires.header)))
     (lower_below n _ _ _ c.lower-joined.ensures c.joined_fault-init.ensures.inside
-    (lower_below n _ _ _ c.lower-2.ensures c.joined_fault-bss.ensures.inside (lower_below n _ _ _ c.lower.ensures c.table_fault-table.ensures.inside c.sections_fault-relocs.ensures.inside))))
+    (lower_below n _ _ _ c.lower-2.ensures c.joined_fault-bss.ensures.inside
+    (lower_below n _ _ _ c.lower.ensures c.table_fault-table.ensures.inside c.sections_fault-relocs.ensures.inside))))

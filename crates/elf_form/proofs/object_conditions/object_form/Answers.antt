@@ -30,11 +30,20 @@ misaligned-requires c = c.requires
 pub returns-clause-place : goal.returns-clause-place
 unfolding object_form
 returns-clause-place c =
-    rw (c.lower-3.ensures, c.lower-2.ensures, c.lower.ensures, c.first_field-foreign.ensures.place, c.second_field-text.ensures.place, c.second_field-sites.ensures.place, c.misaligned.ensures.place)
+    rw (
+      c.lower-3.ensures,
+      c.lower-2.ensures,
+      c.lower.ensures,
+      c.first_field-foreign.ensures.place,
+      c.second_field-text.ensures.place,
+      c.second_field-sites.ensures.place,
+      c.misaligned.ensures.place,
+    )
     (rw (c.with_role.ensures.found, c.with_role-2.ensures.found, c.with_role-3.ensures.found, c.names-names.ensures) refl)
 
 pub returns-clause-inside : goal.returns-clause-inside
 returns-clause-inside c =
     let n = length c.args.bytes.now in
     lower_below n _ _ _ c.lower-3.ensures c.first_field-foreign.ensures.inside
-    (lower_below n _ _ _ c.lower-2.ensures c.second_field-text.ensures.inside (lower_below n _ _ _ c.lower.ensures c.second_field-sites.ensures.inside c.misaligned.ensures.inside))
+    (lower_below n _ _ _ c.lower-2.ensures c.second_field-text.ensures.inside
+    (lower_below n _ _ _ c.lower.ensures c.second_field-sites.ensures.inside c.misaligned.ensures.inside))

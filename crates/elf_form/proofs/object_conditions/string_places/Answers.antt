@@ -17,7 +17,14 @@ symbol_names_fault-requires c = record { whole = c.requires; inside = c.with_rol
 
 pub returns-clause-place : goal.returns-clause-place
 unfolding string_places
-returns-clause-place c = rw (c.lower.ensures, c.section_names_fault.ensures.place, c.symbol_names_fault.ensures.place, c.with_role-symbols.ensures.found, c.names.ensures) refl
+returns-clause-place c = rw (
+  c.lower.ensures,
+  c.section_names_fault.ensures.place,
+  c.symbol_names_fault.ensures.place,
+  c.with_role-symbols.ensures.found,
+  c.names.ensures,
+) refl
 
 pub returns-clause-inside : goal.returns-clause-inside
-returns-clause-inside c = lower_below (length c.args.bytes.now) _ _ _ c.lower.ensures c.section_names_fault.ensures.inside c.symbol_names_fault.ensures.inside
+returns-clause-inside c =
+    lower_below (length c.args.bytes.now) _ _ _ c.lower.ensures c.section_names_fault.ensures.inside c.symbol_names_fault.ensures.inside

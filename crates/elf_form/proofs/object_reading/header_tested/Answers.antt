@@ -23,21 +23,28 @@ pub test-requires : goal.test-requires
 test-requires c = c.object_sizes.ensures.small
 
 pub section_tested-requires : goal.section_tested-requires
-section_tested-requires c = record { whole = c.requires; limit = rw (tested_none Sizes c.object_sizes.result c.in_ok-test.ensures) at c.object_sizes.ensures.limit }
+section_tested-requires c =
+    record { whole = c.requires; limit = rw (tested_none Sizes c.object_sizes.result c.in_ok-test.ensures) at c.object_sizes.ensures.limit }
 
 pub returns-in_err-identified : goal.returns-in_err-identified
 returns-in_err-identified c =
     gives_err (λ o. o) c.from_residual.result c.in_err-identified.field-0.0 _ c.from_residual.ensures.1
-    (fails_first c.in_err-identified.field-0.0 (identified 1 c.args.bytes.now) (later c.args.bytes.now (Sizes ∷ section_causes)) c.in_err-identified.ensures)
+    (fails_first c.in_err-identified.field-0.0 (identified 1 c.args.bytes.now) (later c.args.bytes.now (Sizes ∷ section_causes))
+    c.in_err-identified.ensures)
 
 pub returns-in_err-test : goal.returns-in_err-test
 unfolding tested wrong_object
 returns-in_err-test c =
-    passes_first (λ o. o) c.from_residual-in_err-test.result (identified 1 c.args.bytes.now) tt (later c.args.bytes.now (Sizes ∷ section_causes)) c.in_ok-identified.ensures
-    (test_fails (λ o. o) c.from_residual-in_err-test.result c.in_err-test.field-0.0 Sizes c.object_sizes.result (object_sizes c.args.bytes.now) (later c.args.bytes.now section_causes) c.from_residual-in_err-test.ensures.1 c.in_err-test.ensures c.object_sizes.ensures.place)
+    passes_first (λ o. o) c.from_residual-in_err-test.result (identified 1 c.args.bytes.now) tt
+    (later c.args.bytes.now (Sizes ∷ section_causes)) c.in_ok-identified.ensures
+    (test_fails (λ o. o) c.from_residual-in_err-test.result c.in_err-test.field-0.0 Sizes c.object_sizes.result
+    (object_sizes c.args.bytes.now) (later c.args.bytes.now section_causes) c.from_residual-in_err-test.ensures.1 c.in_err-test.ensures
+    c.object_sizes.ensures.place)
 
 pub returns : goal.returns
 unfolding tested wrong_object
 returns c =
-    passes_first (λ o. o) c.section_tested.result (identified 1 c.args.bytes.now) tt (later c.args.bytes.now (Sizes ∷ section_causes)) c.in_ok-identified.ensures
-    (test_passes (λ o. o) c.section_tested.result Sizes c.object_sizes.result (object_sizes c.args.bytes.now) (later c.args.bytes.now section_causes) c.in_ok-test.ensures c.object_sizes.ensures.place c.section_tested.ensures)
+    passes_first (λ o. o) c.section_tested.result (identified 1 c.args.bytes.now) tt (later c.args.bytes.now (Sizes ∷ section_causes))
+    c.in_ok-identified.ensures
+    (test_passes (λ o. o) c.section_tested.result Sizes c.object_sizes.result (object_sizes c.args.bytes.now)
+    (later c.args.bytes.now section_causes) c.in_ok-test.ensures c.object_sizes.ensures.place c.section_tested.ensures)

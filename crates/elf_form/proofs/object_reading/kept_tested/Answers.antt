@@ -30,10 +30,14 @@ test-requires-2 c = below_as (length c.args.bytes.now) (2 ^ 32) _ (omega (arith,
 pub returns-in_err-test : goal.returns-in_err-test
 unfolding tested wrong_object
 returns-in_err-test c =
-    test_fails (λ o. o) c.from_residual.result c.in_err-test.field-0.0 SymbolForm c.symbol_form.result (symbol_form c.args.bytes.now) (later c.args.bytes.now (RelocForm ∷ [])) c.from_residual.ensures.1 c.in_err-test.ensures c.symbol_form.ensures.place
+    test_fails (λ o. o) c.from_residual.result c.in_err-test.field-0.0 SymbolForm c.symbol_form.result (symbol_form c.args.bytes.now)
+    (later c.args.bytes.now (RelocForm ∷ [])) c.from_residual.ensures.1 c.in_err-test.ensures c.symbol_form.ensures.place
 
 pub returns-in_err-test-2 : goal.returns-in_err-test-2
 unfolding tested wrong_object
 returns-in_err-test-2 c =
-    test_passes (λ o. o) c.from_residual-in_err-test-2.result SymbolForm c.symbol_form.result (symbol_form c.args.bytes.now) (later c.args.bytes.now (RelocForm ∷ [])) c.in_ok-test.ensures c.symbol_form.ensures.place
-    (test_fails (λ o. o) c.from_residual-in_err-test-2.result c.in_err-test-2.field-0.0 RelocForm c.reloc_form.result (reloc_form c.args.bytes.now) (later c.args.bytes.now []) c.from_residual-in_err-test-2.ensures.1 c.in_err-test-2.ensures c.reloc_form.ensures.place)
+    test_passes (λ o. o) c.from_residual-in_err-test-2.result SymbolForm c.symbol_form.result (symbol_form c.args.bytes.now)
+    (later c.args.bytes.now (RelocForm ∷ [])) c.in_ok-test.ensures c.symbol_form.ensures.place
+    (test_fails (λ o. o) c.from_residual-in_err-test-2.result c.in_err-test-2.field-0.0 RelocForm c.reloc_form.result
+    (reloc_form c.args.bytes.now) (later c.args.bytes.now []) c.from_residual-in_err-test-2.ensures.1 c.in_err-test-2.ensures
+    c.reloc_form.ensures.place)

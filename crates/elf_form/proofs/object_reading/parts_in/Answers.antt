@@ -4,7 +4,8 @@ use Rattle.elf_form.proofs.object_reading.parts_in.Goals as goal
 
 pub returns-clause-text : goal.returns-clause-text
 unfolding object_at
-returns-clause-text c = rw (c.in_ok-from_slice.ensures.items, c.contents_or-text.ensures, c.with_role.ensures.found, c.names-names.ensures) refl
+returns-clause-text c =
+    rw (c.in_ok-from_slice.ensures.items, c.contents_or-text.ensures, c.with_role.ensures.found, c.names-names.ensures) refl
 
 pub returns-clause-init : goal.returns-clause-init
 unfolding object_at
@@ -12,7 +13,8 @@ returns-clause-init c = rw (c.in_ok-joined.ensures, c.names-names.ensures) refl
 
 pub returns-clause-sites : goal.returns-clause-sites
 unfolding object_at
-returns-clause-sites c = rw (c.in_ok-from_slice-2.ensures.items, c.contents_or-sites.ensures, c.with_role-2.ensures.found, c.names-names.ensures) refl
+returns-clause-sites c =
+    rw (c.in_ok-from_slice-2.ensures.items, c.contents_or-sites.ensures, c.with_role-2.ensures.found, c.names-names.ensures) refl
 
 pub names-names-requires : goal.names-names-requires
 names-names-requires c = c.requires

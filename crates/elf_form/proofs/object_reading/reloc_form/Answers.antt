@@ -17,7 +17,9 @@ kept_fault-requires c = record { whole = c.requires.whole; kept = c.requires.kep
 
 pub returns-clause-place : goal.returns-clause-place
 unfolding reloc_form
-returns-clause-place c = rw (c.lower.ensures, c.sections_fault-links.ensures.place, c.kept_fault.ensures.place, c.table_of.ensures.table, c.names.ensures) refl
+returns-clause-place c =
+    rw (c.lower.ensures, c.sections_fault-links.ensures.place, c.kept_fault.ensures.place, c.table_of.ensures.table, c.names.ensures) refl
 
 pub returns-clause-inside : goal.returns-clause-inside
-returns-clause-inside c = lower_below (length c.args.bytes.now) _ _ _ c.lower.ensures c.sections_fault-links.ensures.inside c.kept_fault.ensures.inside
+returns-clause-inside c =
+    lower_below (length c.args.bytes.now) _ _ _ c.lower.ensures c.sections_fault-links.ensures.inside c.kept_fault.ensures.inside

@@ -38,24 +38,36 @@ test-requires-3 c = below_as (length c.args.bytes.now) (2 ^ 32) _ (omega (arith,
 pub returns-in_err-test : goal.returns-in_err-test
 unfolding tested wrong_object
 returns-in_err-test c =
-    test_fails (λ o. o) c.from_residual.result c.in_err-test.field-0.0 SectionForm c.object_form.result (object_form c.args.bytes.now) (later c.args.bytes.now (Compressed ∷ StringPlace ∷ late_causes)) c.from_residual.ensures.1 c.in_err-test.ensures c.object_form.ensures.place
+    test_fails (λ o. o) c.from_residual.result c.in_err-test.field-0.0 SectionForm c.object_form.result (object_form c.args.bytes.now)
+    (later c.args.bytes.now (Compressed ∷ StringPlace ∷ late_causes)) c.from_residual.ensures.1 c.in_err-test.ensures
+    c.object_form.ensures.place
 
 pub returns-in_err-test-2 : goal.returns-in_err-test-2
 unfolding tested wrong_object
 returns-in_err-test-2 c =
-    test_passes (λ o. o) c.from_residual-in_err-test-2.result SectionForm c.object_form.result (object_form c.args.bytes.now) (later c.args.bytes.now (Compressed ∷ StringPlace ∷ late_causes)) c.in_ok-test.ensures c.object_form.ensures.place
-    (test_fails (λ o. o) c.from_residual-in_err-test-2.result c.in_err-test-2.field-0.0 Compressed c.compressed.result (compressed c.args.bytes.now) (later c.args.bytes.now (StringPlace ∷ late_causes)) c.from_residual-in_err-test-2.ensures.1 c.in_err-test-2.ensures c.compressed.ensures.place)
+    test_passes (λ o. o) c.from_residual-in_err-test-2.result SectionForm c.object_form.result (object_form c.args.bytes.now)
+    (later c.args.bytes.now (Compressed ∷ StringPlace ∷ late_causes)) c.in_ok-test.ensures c.object_form.ensures.place
+    (test_fails (λ o. o) c.from_residual-in_err-test-2.result c.in_err-test-2.field-0.0 Compressed c.compressed.result
+    (compressed c.args.bytes.now) (later c.args.bytes.now (StringPlace ∷ late_causes)) c.from_residual-in_err-test-2.ensures.1
+    c.in_err-test-2.ensures c.compressed.ensures.place)
 
 pub returns-in_err-test-3 : goal.returns-in_err-test-3
 unfolding tested wrong_object
 returns-in_err-test-3 c =
-    test_passes (λ o. o) c.from_residual-in_err-test-3.result SectionForm c.object_form.result (object_form c.args.bytes.now) (later c.args.bytes.now (Compressed ∷ StringPlace ∷ late_causes)) c.in_ok-test.ensures c.object_form.ensures.place
-    (test_passes (λ o. o) c.from_residual-in_err-test-3.result Compressed c.compressed.result (compressed c.args.bytes.now) (later c.args.bytes.now (StringPlace ∷ late_causes)) c.in_ok-test-2.ensures c.compressed.ensures.place
-    (test_fails (λ o. o) c.from_residual-in_err-test-3.result c.in_err-test-3.field-0.0 StringPlace c.string_places.result (string_places c.args.bytes.now) (later c.args.bytes.now late_causes) c.from_residual-in_err-test-3.ensures.1 c.in_err-test-3.ensures c.string_places.ensures.place))
+    test_passes (λ o. o) c.from_residual-in_err-test-3.result SectionForm c.object_form.result (object_form c.args.bytes.now)
+    (later c.args.bytes.now (Compressed ∷ StringPlace ∷ late_causes)) c.in_ok-test.ensures c.object_form.ensures.place
+    (test_passes (λ o. o) c.from_residual-in_err-test-3.result Compressed c.compressed.result (compressed c.args.bytes.now)
+    (later c.args.bytes.now (StringPlace ∷ late_causes)) c.in_ok-test-2.ensures c.compressed.ensures.place
+    (test_fails (λ o. o) c.from_residual-in_err-test-3.result c.in_err-test-3.field-0.0 StringPlace c.string_places.result
+    (string_places c.args.bytes.now) (later c.args.bytes.now late_causes) c.from_residual-in_err-test-3.ensures.1 c.in_err-test-3.ensures
+    c.string_places.ensures.place))
 
 pub returns : goal.returns
 unfolding tested wrong_object
 returns c =
-    test_passes (λ o. o) c.late_tested.result SectionForm c.object_form.result (object_form c.args.bytes.now) (later c.args.bytes.now (Compressed ∷ StringPlace ∷ late_causes)) c.in_ok-test.ensures c.object_form.ensures.place
-    (test_passes (λ o. o) c.late_tested.result Compressed c.compressed.result (compressed c.args.bytes.now) (later c.args.bytes.now (StringPlace ∷ late_causes)) c.in_ok-test-2.ensures c.compressed.ensures.place
-    (test_passes (λ o. o) c.late_tested.result StringPlace c.string_places.result (string_places c.args.bytes.now) (later c.args.bytes.now late_causes) c.in_ok-test-3.ensures c.string_places.ensures.place c.late_tested.ensures))
+    test_passes (λ o. o) c.late_tested.result SectionForm c.object_form.result (object_form c.args.bytes.now)
+    (later c.args.bytes.now (Compressed ∷ StringPlace ∷ late_causes)) c.in_ok-test.ensures c.object_form.ensures.place
+    (test_passes (λ o. o) c.late_tested.result Compressed c.compressed.result (compressed c.args.bytes.now)
+    (later c.args.bytes.now (StringPlace ∷ late_causes)) c.in_ok-test-2.ensures c.compressed.ensures.place
+    (test_passes (λ o. o) c.late_tested.result StringPlace c.string_places.result (string_places c.args.bytes.now)
+    (later c.args.bytes.now late_causes) c.in_ok-test-3.ensures c.string_places.ensures.place c.late_tested.ensures))

@@ -20,7 +20,15 @@ kept_fault-requires c = record { whole = c.requires.whole; kept = c.requires.kep
 
 pub returns-clause-place : goal.returns-clause-place
 unfolding symbol_form
-returns-clause-place c = rw (c.lower.ensures, c.symbols_fault-globals.ensures.place, c.kept_fault.ensures.place, c.table_of-table.ensures.table, c.strings_of.ensures, c.names-names.ensures) refl
+returns-clause-place c = rw (
+  c.lower.ensures,
+  c.symbols_fault-globals.ensures.place,
+  c.kept_fault.ensures.place,
+  c.table_of-table.ensures.table,
+  c.strings_of.ensures,
+  c.names-names.ensures,
+) refl
 
 pub returns-clause-inside : goal.returns-clause-inside
-returns-clause-inside c = lower_below (length c.args.bytes.now) _ _ _ c.lower.ensures c.symbols_fault-globals.ensures.inside c.kept_fault.ensures.inside
+returns-clause-inside c =
+    lower_below (length c.args.bytes.now) _ _ _ c.lower.ensures c.symbols_fault-globals.ensures.inside c.kept_fault.ensures.inside

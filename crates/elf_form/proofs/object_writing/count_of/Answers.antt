@@ -11,13 +11,22 @@ pub loop-r-preserved : goal.loop-r-preserved
 loop-r-preserved c =
     elim c.if-is_of.branch [
       | then-is_of w ↦
-          let more = count_by_more_yes (is_of c.args.in_text) c.args.relocs.now c.loop-r.r-index _ c.loop-r-test.true (sym c.is_of.ensures ∙ w.if-is_of.true) in
-          rw w.count-is (record { counted = omega (arith, more, c.loop-r.invariant.counted); small = omega (arith, c.loop-r.invariant.small) })
+          let more = count_by_more_yes (is_of c.args.in_text) c.args.relocs.now c.loop-r.r-index _ c.loop-r-test.true
+          (sym c.is_of.ensures ∙ w.if-is_of.true) in
+          rw w.count-is (record {
+            counted = omega (arith, more, c.loop-r.invariant.counted);
+            small = omega (arith, c.loop-r.invariant.small);
+          })
       | else-is_of w ↦
-          let more = count_by_more_no (is_of c.args.in_text) c.args.relocs.now c.loop-r.r-index _ c.loop-r-test.true (sym c.is_of.ensures ∙ w.if-is_of.false) in
-          rw w.count-is (record { counted = omega (arith, more, c.loop-r.invariant.counted); small = omega (arith, c.loop-r.invariant.small) })
+          let more = count_by_more_no (is_of c.args.in_text) c.args.relocs.now c.loop-r.r-index _ c.loop-r-test.true
+          (sym c.is_of.ensures ∙ w.if-is_of.false) in
+          rw w.count-is (record {
+            counted = omega (arith, more, c.loop-r.invariant.counted);
+            small = omega (arith, c.loop-r.invariant.small);
+          })
     ]
 
 pub returns-clause-exact : goal.returns-clause-exact
 returns-clause-exact c =
-    subst (λ (relocs : List Reloc). c.loop-r.count ≡ count_by (is_of c.args.in_text) relocs) (take_all c.loop-r.r-index c.args.relocs.now c.loop-r-test.false) c.loop-r.invariant.counted
+    subst (λ (relocs : List Reloc). c.loop-r.count ≡ count_by (is_of c.args.in_text) relocs)
+    (take_all c.loop-r.r-index c.args.relocs.now c.loop-r-test.false) c.loop-r.invariant.counted

@@ -8,5 +8,11 @@ pub returns : goal.returns
 unfolding object_header
 returns c =
     on_ok_weaker c.put_halves-2.result
-    (λ (is : c.put_halves-2.new.out.items ≡ c.put_longs.new.out.items ++ halves (52 ∷ 0 ∷ 0 ∷ 40 ∷ 10 ∷ 9 ∷ [])). rw (is, c.in_ok-put_longs.ensures, c.in_ok-put_halves.ensures, c.in_ok-extend_from_slice.ensures.items, c.requires.layout) (simp append_assoc))
+    (λ (is : c.put_halves-2.new.out.items ≡ c.put_longs.new.out.items ++ halves (52 ∷ 0 ∷ 0 ∷ 40 ∷ 10 ∷ 9 ∷ [])). rw (
+      is,
+      c.in_ok-put_longs.ensures,
+      c.in_ok-put_halves.ensures,
+      c.in_ok-extend_from_slice.ensures.items,
+      c.requires.layout,
+    ) (simp append_assoc))
     c.put_halves-2.ensures

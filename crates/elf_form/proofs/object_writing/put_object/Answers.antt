@@ -20,20 +20,33 @@ pub put_parts-requires : goal.put_parts-requires
 put_parts-requires c = record { writable = c.requires.writable; layout = c.layout_for-layout.ensures }
 
 pub put_tables-requires : goal.put_tables-requires
-put_tables-requires c = record { writable = c.requires.writable; strings = c.requires.strings; places = c.requires.places; layout = c.layout_for-layout.ensures }
+put_tables-requires c = record {
+  writable = c.requires.writable;
+  strings = c.requires.strings;
+  places = c.requires.places;
+  layout = c.layout_for-layout.ensures;
+}
 
 pub put_part_sections-requires : goal.put_part_sections-requires
 put_part_sections-requires c = record { lengths = c.lengths_of-lengths.ensures; layout = c.layout_for-layout.ensures }
 
 pub put_table_sections-requires : goal.put_table_sections-requires
-put_table_sections-requires c = record { count = c.requires.writable.count; lengths = c.lengths_of-lengths.ensures; layout = c.layout_for-layout.ensures }
+put_table_sections-requires c =
+    record { count = c.requires.writable.count; lengths = c.lengths_of-lengths.ensures; layout = c.layout_for-layout.ensures }
 
 pub returns-clause-bytes : goal.returns-clause-bytes
 unfolding object_bytes
 returns-clause-bytes c =
     let o = c.args.object.now in
-    rw (c.in_ok-put_table_sections.ensures, c.in_ok-put_part_sections.ensures, c.in_ok-put_tables.ensures.bytes, c.in_ok-put_parts.ensures, c.in_ok-put_header.ensures)
-    (chain_file c.args.out.now.items (object_header o) (object_parts o) (object_tables o) (longs (part_sections o)) (longs (table_sections o)))
+    rw (
+      c.in_ok-put_table_sections.ensures,
+      c.in_ok-put_part_sections.ensures,
+      c.in_ok-put_tables.ensures.bytes,
+      c.in_ok-put_parts.ensures,
+      c.in_ok-put_header.ensures,
+    )
+    (chain_file c.args.out.now.items (object_header o) (object_parts o) (object_tables o) (longs (part_sections o))
+    (longs (table_sections o)))
 
 pub returns-clause-values : goal.returns-clause-values
 returns-clause-values c = c.in_ok-put_tables.ensures.values

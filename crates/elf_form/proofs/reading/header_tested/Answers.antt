@@ -32,7 +32,8 @@ section_tested-requires c =
 pub returns-in_err-identified-clause-exact : goal.returns-in_err-identified-clause-exact
 returns-in_err-identified-clause-exact c =
     gives_err (parts_by c.args.bytes.now) c.from_residual.result c.in_err-identified.field-0.0 _ c.from_residual.ensures.1
-    (fails_first c.in_err-identified.field-0.0 (identified 2 c.args.bytes.now) (later c.args.bytes.now (Sizes ∷ section_causes)) c.in_err-identified.ensures)
+    (fails_first c.in_err-identified.field-0.0 (identified 2 c.args.bytes.now) (later c.args.bytes.now (Sizes ∷ section_causes))
+    c.in_err-identified.ensures)
 
 pub returns-in_err-identified-clause-places : goal.returns-in_err-identified-clause-places
 returns-in_err-identified-clause-places c = IfOk-from_err c.from_residual.result _ c.from_residual.ensures.0
@@ -40,8 +41,11 @@ returns-in_err-identified-clause-places c = IfOk-from_err c.from_residual.result
 pub returns-in_err-test-clause-exact : goal.returns-in_err-test-clause-exact
 unfolding tested wrong_image
 returns-in_err-test-clause-exact c =
-    passes_first (parts_by c.args.bytes.now) c.from_residual-in_err-test.result (identified 2 c.args.bytes.now) tt (later c.args.bytes.now (Sizes ∷ section_causes)) c.in_ok-identified.ensures
-    (test_fails (parts_by c.args.bytes.now) c.from_residual-in_err-test.result c.in_err-test.field-0.0 Sizes c.sizes.result (sizes c.args.bytes.now) (later c.args.bytes.now section_causes) c.from_residual-in_err-test.ensures.1 c.in_err-test.ensures c.sizes.ensures.place)
+    passes_first (parts_by c.args.bytes.now) c.from_residual-in_err-test.result (identified 2 c.args.bytes.now) tt
+    (later c.args.bytes.now (Sizes ∷ section_causes)) c.in_ok-identified.ensures
+    (test_fails (parts_by c.args.bytes.now) c.from_residual-in_err-test.result c.in_err-test.field-0.0 Sizes c.sizes.result
+    (sizes c.args.bytes.now) (later c.args.bytes.now section_causes) c.from_residual-in_err-test.ensures.1 c.in_err-test.ensures
+    c.sizes.ensures.place)
 
 pub returns-in_err-test-clause-places : goal.returns-in_err-test-clause-places
 returns-in_err-test-clause-places c = IfOk-from_err c.from_residual-in_err-test.result _ c.from_residual-in_err-test.ensures.0
@@ -49,8 +53,10 @@ returns-in_err-test-clause-places c = IfOk-from_err c.from_residual-in_err-test.
 pub returns-clause-exact : goal.returns-clause-exact
 unfolding tested wrong_image
 returns-clause-exact c =
-    passes_first (parts_by c.args.bytes.now) c.section_tested.result (identified 2 c.args.bytes.now) tt (later c.args.bytes.now (Sizes ∷ section_causes)) c.in_ok-identified.ensures
-    (test_passes (parts_by c.args.bytes.now) c.section_tested.result Sizes c.sizes.result (sizes c.args.bytes.now) (later c.args.bytes.now section_causes) c.in_ok-test.ensures c.sizes.ensures.place c.section_tested.ensures.exact)
+    passes_first (parts_by c.args.bytes.now) c.section_tested.result (identified 2 c.args.bytes.now) tt
+    (later c.args.bytes.now (Sizes ∷ section_causes)) c.in_ok-identified.ensures
+    (test_passes (parts_by c.args.bytes.now) c.section_tested.result Sizes c.sizes.result (sizes c.args.bytes.now)
+    (later c.args.bytes.now section_causes) c.in_ok-test.ensures c.sizes.ensures.place c.section_tested.ensures.exact)
 
 pub returns-clause-places : goal.returns-clause-places
 returns-clause-places c = c.section_tested.ensures.places

@@ -16,16 +16,24 @@ pub loop-i-preserved : goal.loop-i-preserved
 loop-i-preserved c =
     elim c.if-is_listed.branch [
       | then-is_listed+in_ok-symbol_at+in_ok-push w ↦
-          let here = ap (map (symbol_at c.args.strings.now c.args.names.now c.args.bytes.now)) (filter-here (is_listed c.args.names.now c.args.bytes.now) (c.args.table.at + 16) 16 (c.args.table.count - 1) c.loop-i.i c.loop-i-test.true (sym c.is_listed.ensures ∙ w.if-is_listed.true)) in
+          let here = ap (map (symbol_at c.args.strings.now c.args.names.now c.args.bytes.now))
+          (filter-here (is_listed c.args.names.now c.args.bytes.now) (c.args.table.at + 16) 16 (c.args.table.count - 1) c.loop-i.i
+          c.loop-i-test.true (sym c.is_listed.ensures ∙ w.if-is_listed.true)) in
           rw (w.out-is, w.in_ok-push.ensures.items, w.in_ok-symbol_at.ensures) (one_more c.loop-i.out.items _ _ _ here ∙ c.loop-i.invariant)
       | else-is_listed w ↦
-          let next = ap (map (symbol_at c.args.strings.now c.args.names.now c.args.bytes.now)) (filter-next (is_listed c.args.names.now c.args.bytes.now) (c.args.table.at + 16) 16 (c.args.table.count - 1) c.loop-i.i c.loop-i-test.true (sym c.is_listed.ensures ∙ w.if-is_listed.false)) in
+          let next = ap (map (symbol_at c.args.strings.now c.args.names.now c.args.bytes.now))
+          (filter-next (is_listed c.args.names.now c.args.bytes.now) (c.args.table.at + 16) 16 (c.args.table.count - 1) c.loop-i.i
+          c.loop-i-test.true (sym c.is_listed.ensures ∙ w.if-is_listed.false)) in
           rw w.out-is (ap (λ rest. c.loop-i.out.items ++ rest) (sym next) ∙ c.loop-i.invariant)
     ]
 
 pub returns : goal.returns
 unfolding symbols_in
-returns c = no_more c.loop-i.out.items _ (ap (map (symbol_at c.args.strings.now c.args.names.now c.args.bytes.now)) (filter-end (is_listed c.args.names.now c.args.bytes.now) (c.args.table.at + 16) 16 (c.args.table.count - 1) c.loop-i.i c.loop-i-test.false)) ∙ c.loop-i.invariant
+returns c =
+    no_more c.loop-i.out.items _
+    (ap (map (symbol_at c.args.strings.now c.args.names.now c.args.bytes.now))
+    (filter-end (is_listed c.args.names.now c.args.bytes.now) (c.args.table.at + 16) 16 (c.args.table.count - 1) c.loop-i.i
+    c.loop-i-test.false)) ∙ c.loop-i.invariant
 
 pub symbol_at-requires-clause-whole : goal.symbol_at-requires-clause-whole
 symbol_at-requires-clause-whole c = c.requires.whole

@@ -10,4 +10,14 @@ role_at-requires c = c.requires.whole
 
 pub returns : goal.returns
 unfolding symbol_at
-returns c = rw (c.in_ok-from_slice.ensures.items, c.name_in-name.ensures, c.word.ensures, c.place_by.ensures, c.role_at.ensures.role, c.start_at-start.ensures, c.half-index.ensures, c.byte.ensures, c.word-2.ensures) refl
+returns c = rw (
+  c.in_ok-from_slice.ensures.items,
+  c.name_in-name.ensures,
+  c.word.ensures,
+  c.place_by.ensures,
+  c.role_at.ensures.role,
+  c.start_at-start.ensures,
+  c.half-index.ensures,
+  c.byte.ensures,
+  c.word-2.ensures,
+) refl

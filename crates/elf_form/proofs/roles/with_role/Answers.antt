@@ -12,7 +12,9 @@ use Rattle.elf_form.proofs.roles.with_role.Goals.{then-has_role, else-has_role}
 
 pub loop-i-init : goal.loop-i-init
 loop-i-init c = record {
-  so_far = ap (λ xs. found_on Nothing (filter (has_role c.args.role c.args.names.now c.args.bytes.now) xs)) (entries-start c.word-table.result 40 c.half-count.result) ∙ found_on-all (filter (has_role c.args.role c.args.names.now c.args.bytes.now) (entries c.word-table.result 40 c.half-count.result));
+  so_far = ap (λ xs. found_on Nothing (filter (has_role c.args.role c.args.names.now c.args.bytes.now) xs))
+      (entries-start c.word-table.result 40 c.half-count.result)
+      ∙ found_on-all (filter (has_role c.args.role c.args.names.now c.args.bytes.now) (entries c.word-table.result 40 c.half-count.result));
   inside = tt;
 }
 
@@ -20,14 +22,23 @@ pub loop-i-preserved : goal.loop-i-preserved
 loop-i-preserved c =
     elim c.if-has_role.branch [
       | then-has_role w ↦
-          let is : c.if-has_role.found ≡ with_one c.loop-i.found (c.word-table.result + 40 * c.loop-i.i) = w.found-is ∙ w.with-found.ensures in
+          let is : c.if-has_role.found ≡ with_one c.loop-i.found (c.word-table.result + 40 * c.loop-i.i) =
+          w.found-is ∙ w.with-found.ensures in
           rw is (record {
-            so_far = sym (found-here (has_role c.args.role c.args.names.now c.args.bytes.now) c.loop-i.found c.word-table.result 40 c.half-count.result c.loop-i.i c.loop-i-test.true (sym c.has_role.ensures ∙ w.if-has_role.true)) ∙ c.loop-i.invariant.so_far;
-            inside = AllFound-with (IsSection c.args.bytes.now) c.loop-i.found _ c.loop-i.invariant.inside (section_at c.args.bytes.now c.word-table.result c.half-count.result c.loop-i.i c.word-table.ensures c.half-count.ensures c.requires c.loop-i-test.true);
+            so_far =
+                sym (found-here (has_role c.args.role c.args.names.now c.args.bytes.now) c.loop-i.found c.word-table.result 40
+                c.half-count.result c.loop-i.i c.loop-i-test.true (sym c.has_role.ensures ∙ w.if-has_role.true))
+                ∙ c.loop-i.invariant.so_far;
+            inside = AllFound-with (IsSection c.args.bytes.now) c.loop-i.found _ c.loop-i.invariant.inside
+                (section_at c.args.bytes.now c.word-table.result c.half-count.result c.loop-i.i c.word-table.ensures c.half-count.ensures
+                c.requires c.loop-i-test.true);
           })
       | else-has_role w ↦
           rw w.found-is (record {
-            so_far = sym (found-next (has_role c.args.role c.args.names.now c.args.bytes.now) c.loop-i.found c.word-table.result 40 c.half-count.result c.loop-i.i c.loop-i-test.true (sym c.has_role.ensures ∙ w.if-has_role.false)) ∙ c.loop-i.invariant.so_far;
+            so_far =
+                sym (found-next (has_role c.args.role c.args.names.now c.args.bytes.now) c.loop-i.found c.word-table.result 40
+                c.half-count.result c.loop-i.i c.loop-i-test.true (sym c.has_role.ensures ∙ w.if-has_role.false))
+                ∙ c.loop-i.invariant.so_far;
             inside = c.loop-i.invariant.inside;
           })
     ]
@@ -35,5 +46,6 @@ loop-i-preserved c =
 pub returns-clause-found : goal.returns-clause-found
 unfolding with_role
 returns-clause-found c =
-    let ends = found-end (has_role c.args.role c.args.names.now c.args.bytes.now) c.loop-i.found c.word-table.result 40 c.half-count.result c.loop-i.i c.loop-i-test.false in
+    let ends = found-end (has_role c.args.role c.args.names.now c.args.bytes.now) c.loop-i.found c.word-table.result 40 c.half-count.result
+    c.loop-i.i c.loop-i-test.false in
     rw (← c.word-table.ensures, ← c.half-count.ensures) (sym ends ∙ c.loop-i.invariant.so_far)

@@ -13,7 +13,8 @@ overflow_cast-text c =
     let lt = within _ _ _ e c.loop-object-test.true in
     let is = item _ _ _ _ _ e c.loop-object-test.true c.object-item.is in
     let fits = fits_at c.args.objects.now.items c.loop-object.object-index c.object-item.result c.requires lt is in
-    let text : c.round_up.result ≡ text_room c.object-item.result = c.round_up.ensures ∙ ap (round_up 16) (c.len.ensures ∙ omega (arith, c.object.inside.text.ok, ap text_size c.object.view_is)) in
+    let text : c.round_up.result ≡ text_room c.object-item.result =
+    c.round_up.ensures ∙ ap (round_up 16) (c.len.ensures ∙ omega (arith, c.object.inside.text.ok, ap text_size c.object.view_is)) in
     omega (arith, fits.text, text)
 
 pub overflow_add-text : goal.overflow_add-text
@@ -22,7 +23,8 @@ overflow_add-text c =
     let lt = within _ _ _ e c.loop-object-test.true in
     let is = item _ _ _ _ _ e c.loop-object-test.true c.object-item.is in
     let fits = fits_at c.args.objects.now.items c.loop-object.object-index c.object-item.result c.requires lt is in
-    let text : c.round_up.result ≡ text_room c.object-item.result = c.round_up.ensures ∙ ap (round_up 16) (c.len.ensures ∙ omega (arith, c.object.inside.text.ok, ap text_size c.object.view_is)) in
+    let text : c.round_up.result ≡ text_room c.object-item.result =
+    c.round_up.ensures ∙ ap (round_up 16) (c.len.ensures ∙ omega (arith, c.object.inside.text.ok, ap text_size c.object.view_is)) in
     omega (arith, fits.text, text, c.loop-object.invariant.begins.text)
 
 pub overflow_add-init : goal.overflow_add-init
@@ -31,7 +33,8 @@ overflow_add-init c =
     let lt = within _ _ _ e c.loop-object-test.true in
     let is = item _ _ _ _ _ e c.loop-object-test.true c.object-item.is in
     let fits = fits_at c.args.objects.now.items c.loop-object.object-index c.object-item.result c.requires lt is in
-    let init : c.round_up-in-loop-object.result ≡ init_room c.object-item.result = c.round_up-in-loop-object.ensures ∙ ap (round_up 4096) (c.len-in-loop-object.ensures ∙ omega (arith, c.object.inside.init.ok, ap init_size c.object.view_is)) in
+    let init : c.round_up-in-loop-object.result ≡ init_room c.object-item.result = c.round_up-in-loop-object.ensures
+    ∙ ap (round_up 4096) (c.len-in-loop-object.ensures ∙ omega (arith, c.object.inside.init.ok, ap init_size c.object.view_is)) in
     omega (arith, fits.init, init, c.loop-object.invariant.begins.init)
 
 pub overflow_cast-bss-in-loop-object : goal.overflow_cast-bss-in-loop-object
@@ -40,7 +43,8 @@ overflow_cast-bss-in-loop-object c =
     let lt = within _ _ _ e c.loop-object-test.true in
     let is = item _ _ _ _ _ e c.loop-object-test.true c.object-item.is in
     let fits = fits_at c.args.objects.now.items c.loop-object.object-index c.object-item.result c.requires lt is in
-    let bss : c.round_up-in-loop-object-2.result ≡ bss_room c.object-item.result = c.round_up-in-loop-object-2.ensures ∙ ap (round_up 4096) (ap bss_size c.object.view_is) in
+    let bss : c.round_up-in-loop-object-2.result ≡ bss_room c.object-item.result =
+    c.round_up-in-loop-object-2.ensures ∙ ap (round_up 4096) (ap bss_size c.object.view_is) in
     omega (arith, fits.bss, bss)
 
 pub overflow_add-bss-in-loop-object : goal.overflow_add-bss-in-loop-object
@@ -49,7 +53,8 @@ overflow_add-bss-in-loop-object c =
     let lt = within _ _ _ e c.loop-object-test.true in
     let is = item _ _ _ _ _ e c.loop-object-test.true c.object-item.is in
     let fits = fits_at c.args.objects.now.items c.loop-object.object-index c.object-item.result c.requires lt is in
-    let bss : c.round_up-in-loop-object-2.result ≡ bss_room c.object-item.result = c.round_up-in-loop-object-2.ensures ∙ ap (round_up 4096) (ap bss_size c.object.view_is) in
+    let bss : c.round_up-in-loop-object-2.result ≡ bss_room c.object-item.result =
+    c.round_up-in-loop-object-2.ensures ∙ ap (round_up 4096) (ap bss_size c.object.view_is) in
     omega (arith, fits.bss, bss, c.loop-object.invariant.begins.bss)
 
 pub loop-object-preserved : goal.loop-object-preserved
@@ -57,16 +62,22 @@ loop-object-preserved c =
     let e = c.deref-object-items.ensures.value in
     let lt = within _ _ _ e c.loop-object-test.true in
     let is = item _ _ _ _ _ e c.loop-object-test.true c.object-item.is in
-    let text : c.round_up.result ≡ text_room c.object-item.result = c.round_up.ensures ∙ ap (round_up 16) (c.len.ensures ∙ omega (arith, c.object.inside.text.ok, ap text_size c.object.view_is)) in
-    let init : c.round_up-in-loop-object.result ≡ init_room c.object-item.result = c.round_up-in-loop-object.ensures ∙ ap (round_up 4096) (c.len-in-loop-object.ensures ∙ omega (arith, c.object.inside.init.ok, ap init_size c.object.view_is)) in
-    let bss : c.round_up-in-loop-object-2.result ≡ bss_room c.object-item.result = c.round_up-in-loop-object-2.ensures ∙ ap (round_up 4096) (ap bss_size c.object.view_is) in
+    let text : c.round_up.result ≡ text_room c.object-item.result =
+    c.round_up.ensures ∙ ap (round_up 16) (c.len.ensures ∙ omega (arith, c.object.inside.text.ok, ap text_size c.object.view_is)) in
+    let init : c.round_up-in-loop-object.result ≡ init_room c.object-item.result = c.round_up-in-loop-object.ensures
+    ∙ ap (round_up 4096) (c.len-in-loop-object.ensures ∙ omega (arith, c.object.inside.init.ok, ap init_size c.object.view_is)) in
+    let bss : c.round_up-in-loop-object-2.result ≡ bss_room c.object-item.result =
+    c.round_up-in-loop-object-2.ensures ∙ ap (round_up 4096) (ap bss_size c.object.view_is) in
     record {
       so_far =
           c.in_ok-push.ensures.items
-          ∙ (ap (λ (bs : List Base). bs ++ record { text = c.loop-object.text; init = c.loop-object.init; bss = c.loop-object.bss } ∷ []) c.loop-object.invariant.so_far
-          ∙ (ap (λ (b : Base). take c.loop-object.object-index (bases c.args.objects.now.items) ++ b ∷ []) (sym (begins_base _ _ _ _ _ c.loop-object.invariant.begins))
+          ∙ (ap (λ (bs : List Base). bs ++ record { text = c.loop-object.text; init = c.loop-object.init; bss = c.loop-object.bss } ∷ [])
+          c.loop-object.invariant.so_far
+          ∙ (ap (λ (b : Base). take c.loop-object.object-index (bases c.args.objects.now.items) ++ b ∷ [])
+          (sym (begins_base _ _ _ _ _ c.loop-object.invariant.begins))
           ∙ sym (bases-more c.args.objects.now.items c.loop-object.object-index c.object-item.result lt is)));
-      begins = begins_next c.args.objects.now.items c.loop-object.object-index c.object-item.result _ _ _ _ _ _ lt is c.loop-object.invariant.begins text init bss;
+      begins = begins_next c.args.objects.now.items c.loop-object.object-index c.object-item.result _ _ _ _ _ _ lt is
+          c.loop-object.invariant.begins text init bss;
     }
 
 pub returns : goal.returns
@@ -84,7 +95,8 @@ pub overflow_add-bss : goal.overflow_add-bss
 overflow_add-bss c = omega (arith, c.init_span.ensures.small.0)
 
 pub loop-object-init : goal.loop-object-init
-loop-object-init c = record { so_far = c.new-out.ensures.items; begins = record { text = refl; init = refl; bss = omega (arith, c.init_span.ensures.room) } }
+loop-object-init c =
+    record { so_far = c.new-out.ensures.items; begins = record { text = refl; init = refl; bss = omega (arith, c.init_span.ensures.room) } }
 
 pub overflow_cast-init : goal.overflow_cast-init
 overflow_cast-init c =
@@ -92,7 +104,8 @@ overflow_cast-init c =
     let lt = within _ _ _ e c.loop-object-test.true in
     let is = item _ _ _ _ _ e c.loop-object-test.true c.object-item.is in
     let fits = fits_at c.args.objects.now.items c.loop-object.object-index c.object-item.result c.requires lt is in
-    let init : c.round_up-in-loop-object.result ≡ init_room c.object-item.result = c.round_up-in-loop-object.ensures ∙ ap (round_up 4096) (c.len-in-loop-object.ensures ∙ omega (arith, c.object.inside.init.ok, ap init_size c.object.view_is)) in
+    let init : c.round_up-in-loop-object.result ≡ init_room c.object-item.result = c.round_up-in-loop-object.ensures
+    ∙ ap (round_up 4096) (c.len-in-loop-object.ensures ∙ omega (arith, c.object.inside.init.ok, ap init_size c.object.view_is)) in
     omega (arith, fits.init, init)
 
 pub returns-in_err-push : goal.returns-in_err-push

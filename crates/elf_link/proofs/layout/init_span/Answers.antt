@@ -15,18 +15,36 @@ loop-object-init c = record { room = refl; end = refl }
 pub behind-span-requires : goal.behind-span-requires
 behind-span-requires c =
     let e = c.deref-object-items.ensures.value in
-    let fits = fits_at c.args.objects.now.items c.loop-object.object-index c.object-item.result c.requires (within _ _ _ e c.loop-object-test.true) (item _ _ _ _ _ e c.loop-object-test.true c.object-item.is) in
-    let size : vec_len c.object.inside.init ≡ init_size c.object-item.result = omega (arith, c.object.inside.init.ok, ap init_size c.object.view_is) in
+    let fits = fits_at c.args.objects.now.items c.loop-object.object-index c.object-item.result c.requires
+    (within _ _ _ e c.loop-object-test.true) (item _ _ _ _ _ e c.loop-object-test.true c.object-item.is) in
+    let size : vec_len c.object.inside.init ≡ init_size c.object-item.result =
+    omega (arith, c.object.inside.init.ok, ap init_size c.object.view_is) in
     omega (arith, fits.init, c.loop-object.invariant.room, size)
 
 pub loop-object-preserved : goal.loop-object-preserved
 loop-object-preserved c =
     let e = c.deref-object-items.ensures.value in
-    let size : vec_len c.object.inside.init ≡ init_size c.object-item.result = omega (arith, c.object.inside.init.ok, ap init_size c.object.view_is) in
-    spans_next init_size c.args.objects.now.items c.loop-object.object-index c.object-item.result c.loop-object.span c.behind-span.result (c.len.result) (within _ _ _ e c.loop-object-test.true) (item _ _ _ _ _ e c.loop-object-test.true c.object-item.is) (c.len.ensures ∙ size) c.loop-object.invariant c.behind-span.ensures
+    let size : vec_len c.object.inside.init ≡ init_size c.object-item.result =
+    omega (arith, c.object.inside.init.ok, ap init_size c.object.view_is) in
+    spans_next init_size c.args.objects.now.items c.loop-object.object-index c.object-item.result c.loop-object.span c.behind-span.result
+    (c.len.result) (within _ _ _ e c.loop-object-test.true) (item _ _ _ _ _ e c.loop-object-test.true c.object-item.is)
+    (c.len.ensures ∙ size) c.loop-object.invariant c.behind-span.ensures
 
 pub returns-clause-small : goal.returns-clause-small
 unfolding totals
 returns-clause-small c =
-    let room : c.loop-object.span.room ≤ 33554432 = omega (arith, c.loop-object.invariant.room, sum_by-take-le init_room c.args.objects.now.items c.loop-object.object-index, c.requires.memory) in
-    (room, omega (arith, c.loop-object.invariant.end, extent-within init_size (take c.loop-object.object-index c.args.objects.now.items), c.loop-object.invariant.room, room))
+    let room : c.loop-object.span.room ≤ 33554432 = omega (
+      arith,
+      c.loop-object.invariant.room,
+      sum_by-take-le init_room c.args.objects.now.items c.loop-object.object-index,
+      c.requires.memory,
+    ) in (
+      room,
+      omega (
+        arith,
+        c.loop-object.invariant.end,
+        extent-within init_size (take c.loop-object.object-index c.args.objects.now.items),
+        c.loop-object.invariant.room,
+        room,
+      ),
+    )

@@ -10,8 +10,11 @@ loop-object-preserved c =
     let e = c.deref-object-items.ensures.value in
     let lt = within _ _ _ e c.loop-object-test.true in
     let is = item _ _ _ _ _ e c.loop-object-test.true c.object-item.is in
-    below_more (λ (k : ℕ). (d : ObjectParts) → IsLinkable (get_or c.args.objects.now.items k d)) c.loop-object.object-index c.loop-object.invariant
-    (λ d. subst (λ (o : ObjectParts). IsLinkable o) (sym is ∙ get_or_default c.args.objects.now.items c.loop-object.object-index c.object-item.result d lt) (c.is_linkable.ensures.sound c.if-not-is_linkable.false))
+    below_more (λ (k : ℕ). (d : ObjectParts) → IsLinkable (get_or c.args.objects.now.items k d)) c.loop-object.object-index
+    c.loop-object.invariant
+    (λ d. subst (λ (o : ObjectParts). IsLinkable o)
+    (sym is ∙ get_or_default c.args.objects.now.items c.loop-object.object-index c.object-item.result d lt)
+    (c.is_linkable.ensures.sound c.if-not-is_linkable.false))
 
 pub returns-clause-sound : goal.returns-clause-sound
 returns-clause-sound c =

@@ -7,7 +7,8 @@ use Rattle.elf_link.proofs.linking.linked.Goals as goal
 
 pub returns-in_err-all-clause-exact : goal.returns-in_err-all-clause-exact
 returns-in_err-all-clause-exact c =
-    gives_err (λ (image : ImageParts). image) c.from_residual.result c.in_err-all.field-0.0 _ c.from_residual.ensures.1 (objects_fail c.args.objects.now.items c.in_err-all.field-0.0 c.in_err-all.ensures.exact)
+    gives_err (λ (image : ImageParts). image) c.from_residual.result c.in_err-all.field-0.0 _ c.from_residual.ensures.1
+    (objects_fail c.args.objects.now.items c.in_err-all.field-0.0 c.in_err-all.ensures.exact)
 
 pub linked_by-requires-clause-plan : goal.linked_by-requires-clause-plan
 linked_by-requires-clause-plan c = record { bases = c.in_ok-bases.ensures; globals = c.in_ok-all.ensures.globals }
@@ -34,7 +35,8 @@ pub returns-in_err-bases-clause-longs : goal.returns-in_err-bases-clause-longs
 returns-in_err-bases-clause-longs c = IfOk-from_err c.from_residual-in_err-bases.result _ c.from_residual-in_err-bases.ensures.0
 
 pub returns-in_err-bases-clause-exact : goal.returns-in_err-bases-clause-exact
-returns-in_err-bases-clause-exact c = gives_err (λ (image : ImageParts). image) c.from_residual-in_err-bases.result Memory _ c.from_residual-in_err-bases.ensures.1 tt
+returns-in_err-bases-clause-exact c =
+    gives_err (λ (image : ImageParts). image) c.from_residual-in_err-bases.result Memory _ c.from_residual-in_err-bases.ensures.1 tt
 
 pub gather_all-requires-clause-few : goal.gather_all-requires-clause-few
 gather_all-requires-clause-few c = c.requires.few

@@ -12,8 +12,10 @@ use Rattle.elf_link.proofs.linking.placed.Goals as goal
 
 pub write_sites-requires-clause-sites : goal.write_sites-requires-clause-sites
 write_sites-requires-clause-sites c =
-    let text : length c.in_ok-text.text.items ≡ text_end c.args.objects.now.items + 2 = ap length c.in_ok-text.ensures ∙ length-linked_text c.args.objects.now.items c.requires.linkable in
-    c.of_text-sites.ensures.writable (sites_in_form 0 c.args.sites.items c.requires.gathered.below.form) (λ long. c.requires.gathered.gaps (omega (arith, text, c.len.ensures, long)))
+    let text : length c.in_ok-text.text.items ≡ text_end c.args.objects.now.items + 2 =
+    ap length c.in_ok-text.ensures ∙ length-linked_text c.args.objects.now.items c.requires.linkable in
+    c.of_text-sites.ensures.writable (sites_in_form 0 c.args.sites.items c.requires.gathered.below.form)
+    (λ long. c.requires.gathered.gaps (omega (arith, text, c.len.ensures, long)))
 
 pub overflow_sub-result : goal.overflow_sub-result
 overflow_sub-result c =
@@ -25,17 +27,23 @@ overflow_cast-result c =
 
 pub returns-clause-image : goal.returns-clause-image
 returns-clause-image c =
-    let bss : c.memory_end.result - c.init_end-init_end.result ≡ memory_end c.args.objects.now.items - init_end c.args.objects.now.items = λ j. c.memory_end.ensures j - c.init_end-init_end.ensures j in
+    let bss : c.memory_end.result - c.init_end-init_end.result ≡ memory_end c.args.objects.now.items - init_end c.args.objects.now.items =
+    λ j. c.memory_end.ensures j - c.init_end-init_end.ensures j in
     let long : c.len.result ≡ length c.in_ok-text.text.items = omega (arith, c.len.ensures, c.in_ok-text.text.ok) in
     let len : c.len.result ≡ length (linked_text c.args.objects.now.items) = long ∙ ap length c.in_ok-text.ensures in
-    sym (image_is c.args.objects.now.items c.in_ok-text.text.items c.in_ok-init.init.items c.in_ok-sites.sites.items _ c.args.entry c.in_ok-text.ensures c.in_ok-init.ensures bss c.requires.entry (c.in_ok-sites.ensures.spelling ∙ ap spelling (c.of_text-sites.ensures.sites ∙ (λ j. in_text (len j) (c.requires.gathered.moved j)))))
+    sym (image_is c.args.objects.now.items c.in_ok-text.text.items c.in_ok-init.init.items c.in_ok-sites.sites.items _ c.args.entry
+    c.in_ok-text.ensures c.in_ok-init.ensures bss c.requires.entry
+    (c.in_ok-sites.ensures.spelling ∙ ap spelling (c.of_text-sites.ensures.sites ∙ (λ j. in_text (len j) (c.requires.gathered.moved j)))))
 
 pub returns-clause-laid_out : goal.returns-clause-laid_out
 returns-clause-laid_out c =
-    let text : length c.in_ok-text.text.items ≡ text_end c.args.objects.now.items + 2 = ap length c.in_ok-text.ensures ∙ length-linked_text c.args.objects.now.items c.requires.linkable in
-    let init : length c.in_ok-init.init.items ≡ init_end c.args.objects.now.items = ap length c.in_ok-init.ensures ∙ length-linked_init c.args.objects.now.items c.requires.linkable in
+    let text : length c.in_ok-text.text.items ≡ text_end c.args.objects.now.items + 2 =
+    ap length c.in_ok-text.ensures ∙ length-linked_text c.args.objects.now.items c.requires.linkable in
+    let init : length c.in_ok-init.init.items ≡ init_end c.args.objects.now.items =
+    ap length c.in_ok-init.ensures ∙ length-linked_init c.args.objects.now.items c.requires.linkable in
     let memory = memory_fits c.args.objects.now.items c.requires.gathered.within in
-    let room : length c.in_ok-init.init.items + (c.memory_end.result - c.init_end-init_end.result) ≤ 33554432 = omega (arith, init, memory, c.memory_end.ensures, c.init_end-init_end.ensures, init_end-le c.args.objects.now.items) in
+    let room : length c.in_ok-init.init.items + (c.memory_end.result - c.init_end-init_end.result) ≤ 33554432 =
+    omega (arith, init, memory, c.memory_end.ensures, c.init_end-init_end.ensures, init_end-le c.args.objects.now.items) in
     let len : c.len.result ≡ length c.in_ok-text.text.items = omega (arith, c.len.ensures, c.in_ok-text.text.ok) in
     record {
       text_at = refl;
@@ -43,19 +51,32 @@ returns-clause-laid_out c =
       text = (omega (arith, text), omega (arith, text, c.requires.gathered.fits));
       room = room;
       sites = c.args.sites.items;
-      annotated = c.in_ok-sites.ensures.spelling ∙ ap spelling (c.of_text-sites.ensures.sites ∙ ap (λ (n : ℕ). in_text n c.args.sites.items) len);
+      annotated =
+          c.in_ok-sites.ensures.spelling ∙ ap spelling (c.of_text-sites.ensures.sites ∙ ap (λ (n : ℕ). in_text n c.args.sites.items) len);
       form = in_form (length c.in_ok-text.text.items) c.args.sites.items c.requires.gathered.below.form
-          (λ long. in_gaps 0 (text_end c.args.objects.now.items) c.args.sites.items (c.requires.gathered.gaps (omega (arith, text, long))) c.requires.gathered.below.below (omega (arith, c.requires.gathered.fits)));
-      inside = below-wider (text_end c.args.objects.now.items) (length c.in_ok-text.text.items) c.args.sites.items (omega (arith, text)) c.requires.gathered.below.below;
+          (λ long. in_gaps 0 (text_end c.args.objects.now.items) c.args.sites.items (c.requires.gathered.gaps (omega (arith, text, long)))
+          c.requires.gathered.below.below (omega (arith, c.requires.gathered.fits)));
+      inside = below-wider (text_end c.args.objects.now.items) (length c.in_ok-text.text.items) c.args.sites.items (omega (arith, text))
+          c.requires.gathered.below.below;
     }
 
 pub returns-clause-writable : goal.returns-clause-writable
 returns-clause-writable c =
-    let text : length c.in_ok-text.text.items ≡ text_end c.args.objects.now.items + 2 = ap length c.in_ok-text.ensures ∙ length-linked_text c.args.objects.now.items c.requires.linkable in
-    let init : length c.in_ok-init.init.items ≡ init_end c.args.objects.now.items = ap length c.in_ok-init.ensures ∙ length-linked_init c.args.objects.now.items c.requires.linkable in
+    let text : length c.in_ok-text.text.items ≡ text_end c.args.objects.now.items + 2 =
+    ap length c.in_ok-text.ensures ∙ length-linked_text c.args.objects.now.items c.requires.linkable in
+    let init : length c.in_ok-init.init.items ≡ init_end c.args.objects.now.items =
+    ap length c.in_ok-init.ensures ∙ length-linked_init c.args.objects.now.items c.requires.linkable in
     let memory = memory_fits c.args.objects.now.items c.requires.gathered.within in
-    let room : length c.in_ok-init.init.items + (c.memory_end.result - c.init_end-init_end.result) ≤ 33554432 = omega (arith, init, memory, c.memory_end.ensures, c.init_end-init_end.ensures, init_end-le c.args.objects.now.items) in
-    writable _ (omega (arith, text, c.requires.gathered.fits)) room (omega (arith, ap length c.in_ok-sites.ensures.spelling, length-spelling c.of_text-sites.result, ap (λ s. length s.list) c.of_text-sites.ensures.sites, c.requires.gathered.count))
+    let room : length c.in_ok-init.init.items + (c.memory_end.result - c.init_end-init_end.result) ≤ 33554432 =
+    omega (arith, init, memory, c.memory_end.ensures, c.init_end-init_end.ensures, init_end-le c.args.objects.now.items) in
+    writable _ (omega (arith, text, c.requires.gathered.fits)) room
+    (omega (
+      arith,
+      ap length c.in_ok-sites.ensures.spelling,
+      length-spelling c.of_text-sites.result,
+      ap (λ s. length s.list) c.of_text-sites.ensures.sites,
+      c.requires.gathered.count,
+    ))
 
 pub returns-in_err-text-clause-image : goal.returns-in_err-text-clause-image
 returns-in_err-text-clause-image c = IfOk-from_err c.from_residual.result _ c.from_residual.ensures.0

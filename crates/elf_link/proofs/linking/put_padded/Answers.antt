@@ -16,7 +16,8 @@ pub loop-i-preserved : goal.loop-i-preserved
 loop-i-preserved c =
     let done = c.args.out.now.items ++ c.args.bytes.now in
     c.in_ok-push.ensures.items ∙ ap (λ (bytes : List ℕ). bytes ++ c.args.fill ∷ []) c.loop-i.invariant
-    ∙ append_assoc done (replicate c.loop-i._i c.args.fill) (c.args.fill ∷ []) ∙ ap (λ (bytes : List ℕ). done ++ bytes) (replicate-append-replicate c.loop-i._i 1 c.args.fill)
+    ∙ append_assoc done (replicate c.loop-i._i c.args.fill) (c.args.fill ∷ [])
+    ∙ ap (λ (bytes : List ℕ). done ++ bytes) (replicate-append-replicate c.loop-i._i 1 c.args.fill)
 
 pub pad-i-end-requires : goal.pad-i-end-requires
 pad-i-end-requires c = c.requires.0

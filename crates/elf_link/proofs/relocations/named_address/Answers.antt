@@ -16,18 +16,24 @@ past xs ys i e le = sym (slice_get_past xs i le) ∙ ap (λ (zs : List Symbol). 
 
 pub returns-in-None : goal.returns-in-None
 returns-in-None c =
-    let symbols : c.deref.result.now ≡ c.args.object.now.symbols = c.deref.ensures.value ∙ ap (λ (o : ObjectParts). o.symbols) c.object.view_is in
-    ap (λ (s : Option Symbol). address_by c.args.plan.now.bases.items (target_by c.args.plan.now.globals c.args.number s)) (past c.deref.result.now c.args.object.now.symbols c.args.reloc.symbol symbols c.in-None.ensures.lookup.3)
+    let symbols : c.deref.result.now ≡ c.args.object.now.symbols =
+    c.deref.ensures.value ∙ ap (λ (o : ObjectParts). o.symbols) c.object.view_is in
+    ap (λ (s : Option Symbol). address_by c.args.plan.now.bases.items (target_by c.args.plan.now.globals c.args.number s))
+    (past c.deref.result.now c.args.object.now.symbols c.args.reloc.symbol symbols c.in-None.ensures.lookup.3)
 
 pub returns-in-None-target_of : goal.returns-in-None-target_of
 returns-in-None-target_of c =
-    let symbols : c.deref.result.now ≡ c.args.object.now.symbols = c.deref.ensures.value ∙ ap (λ (o : ObjectParts). o.symbols) c.object.view_is in
-    let is = named c.deref.result.now c.args.object.now.symbols c.args.reloc.symbol c.in-Some.symbol.now symbols c.in-Some.ensures.lookup.3.0 c.in-Some.ensures.lookup.1 in
+    let symbols : c.deref.result.now ≡ c.args.object.now.symbols =
+    c.deref.ensures.value ∙ ap (λ (o : ObjectParts). o.symbols) c.object.view_is in
+    let is = named c.deref.result.now c.args.object.now.symbols c.args.reloc.symbol c.in-Some.symbol.now symbols
+    c.in-Some.ensures.lookup.3.0 c.in-Some.ensures.lookup.1 in
     ap (address_by c.args.plan.now.bases.items) (c.in-None-target_of.ensures ∙ ap (target_by c.args.plan.now.globals c.args.number) is)
 
 pub returns-in-Some-target_of : goal.returns-in-Some-target_of
 returns-in-Some-target_of c =
-    let symbols : c.deref.result.now ≡ c.args.object.now.symbols = c.deref.ensures.value ∙ ap (λ (o : ObjectParts). o.symbols) c.object.view_is in
-    let is = named c.deref.result.now c.args.object.now.symbols c.args.reloc.symbol c.in-Some.symbol.now symbols c.in-Some.ensures.lookup.3.0 c.in-Some.ensures.lookup.1 in
+    let symbols : c.deref.result.now ≡ c.args.object.now.symbols =
+    c.deref.ensures.value ∙ ap (λ (o : ObjectParts). o.symbols) c.object.view_is in
+    let is = named c.deref.result.now c.args.object.now.symbols c.args.reloc.symbol c.in-Some.symbol.now symbols
+    c.in-Some.ensures.lookup.3.0 c.in-Some.ensures.lookup.1 in
     c.address.ensures ∙ (ap (λ (bs : List Base). address bs c.in-Some-target_of.target) c.deref-in-Some-target_of.ensures.value
     ∙ ap (address_by c.args.plan.now.bases.items) (c.in-Some-target_of.ensures ∙ ap (target_by c.args.plan.now.globals c.args.number) is))

@@ -26,7 +26,13 @@ overflow_mul-frame-2 c =
 pub put-requires : goal.put-requires
 put-requires c = take-fits c.args.self.now c.args.ram.now c.requires c.if-self-eq0.false
 
-taken : (c : goal.After-put) → Takes c.args.self.now (record { head = c.read32-self.result; base = c.args.self.now.base; count = c.args.self.now.count; free = c.args.self.now.free - 1 }) c.args.ram.now c.put.new.self c.args.self.now.head
+taken : (c : goal.After-put)
+    → Takes c.args.self.now (record {
+      head = c.read32-self.result;
+      base = c.args.self.now.base;
+      count = c.args.self.now.count;
+      free = c.args.self.now.free - 1;
+    }) c.args.ram.now c.put.new.self c.args.self.now.head
 taken c =
     let p = c.args.self.now in
     let m = c.args.ram.now in

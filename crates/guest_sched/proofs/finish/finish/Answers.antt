@@ -23,8 +23,10 @@ returns-in_err-put_last-clause-failed g c =
     let e = c.end_of-end.ensures in
     let none : is_none d.stop ≡ true = ap not c.is_none.ensures ∙ not-not c.is_none.result ∙ c.if-is_none.true in
     rw p.1
-    (fails_there (g.O.Sink.taken c.args.out.now) (g.O.Sink.taken l.out) (g.O.Sink.taken c.put_last.new.out) ts l.number d (tagged (tag_of l.number) (end_line c.end_of-end.result.steps c.end_of-end.result.end)) within
-    (last_line_is ts l.number d c.end_of-end.result e.steps e.end none c.index-tenant.ensures) l.invariant.text c.in_err-put_last.ensures.failed)
+    (fails_there (g.O.Sink.taken c.args.out.now) (g.O.Sink.taken l.out) (g.O.Sink.taken c.put_last.new.out) ts l.number d
+    (tagged (tag_of l.number) (end_line c.end_of-end.result.steps c.end_of-end.result.end)) within
+    (last_line_is ts l.number d c.end_of-end.result e.steps e.end none c.index-tenant.ensures) l.invariant.text
+    c.in_err-put_last.ensures.failed)
 
 pub loop-number-preserved : goal.loop-number-preserved
 loop-number-preserved g c =
@@ -42,17 +44,24 @@ loop-number-preserved g c =
           record {
             len = len;
             ended = more;
-            text = subst (λ (o : g.row.O.Denot). Appends (g.O.Sink.taken c.args.out.now) (g.O.Sink.taken o) (bound_texts 0 (map ended_of (take (l.number + 1) ts)))) (sym w.out-is)
-                (goes_there (g.O.Sink.taken c.args.out.now) (g.O.Sink.taken l.out) (g.O.Sink.taken w.put_last.new.out) ts l.number d (tagged (tag_of l.number) (end_line c.end_of-end.result.steps c.end_of-end.result.end)) within
-                (last_line_is ts l.number d c.end_of-end.result e.steps e.end none c.index-tenant.ensures) l.invariant.text w.in_ok-put_last.ensures.ok);
+            text =
+                subst (λ (o : g.row.O.Denot). Appends (g.O.Sink.taken c.args.out.now) (g.O.Sink.taken o)
+                (bound_texts 0 (map ended_of (take (l.number + 1) ts)))) (sym w.out-is)
+                (goes_there (g.O.Sink.taken c.args.out.now) (g.O.Sink.taken l.out) (g.O.Sink.taken w.put_last.new.out) ts l.number d
+                (tagged (tag_of l.number) (end_line c.end_of-end.result.steps c.end_of-end.result.end)) within
+                (last_line_is ts l.number d c.end_of-end.result e.steps e.end none c.index-tenant.ensures) l.invariant.text
+                w.in_ok-put_last.ensures.ok);
             kept = ap g.O.Sink.faults w.out-is ∙ w.in_ok-put_last.ensures.kept ∙ l.invariant.kept;
           }
       | else-is_none w ↦
-          let some : is_none (get_or ts l.number d).stop ≡ false = ap (λ (t : Tenant). is_none t.stop) (sym c.index-tenant.ensures) ∙ ap not c.is_none.ensures ∙ not-not c.is_none.result ∙ w.if-is_none.false in
+          let some : is_none (get_or ts l.number d).stop ≡ false = ap (λ (t : Tenant). is_none t.stop) (sym c.index-tenant.ensures)
+          ∙ ap not c.is_none.ensures ∙ not-not c.is_none.result ∙ w.if-is_none.false in
           record {
             len = len;
             ended = more;
-            text = subst (λ (o : g.row.O.Denot). Appends (g.O.Sink.taken c.args.out.now) (g.O.Sink.taken o) (bound_texts 0 (map ended_of (take (l.number + 1) ts)))) (sym w.out-is)
+            text =
+                subst (λ (o : g.row.O.Denot). Appends (g.O.Sink.taken c.args.out.now) (g.O.Sink.taken o)
+                (bound_texts 0 (map ended_of (take (l.number + 1) ts)))) (sym w.out-is)
                 (stays_there (g.O.Sink.taken c.args.out.now) (g.O.Sink.taken l.out) ts l.number d within some l.invariant.text);
             kept = ap g.O.Sink.faults w.out-is ∙ l.invariant.kept;
           }

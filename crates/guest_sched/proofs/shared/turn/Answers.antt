@@ -25,12 +25,16 @@ returns-then-is_some-clause-turned g c whole done pieces before was next b =
     let is : c.index.result.now.stop ≡ Some met.0 = met.1 in
     let low = (next_slice _ whole done c.args.slice.now next).known in
     let n = b.rooms.len in
-    let x = skipped_between c.args.kernels.now.items c.args.tenants.now.frames whole done pieces c.args.tenants.now.list.items c.args.tenants.now.pool c.args.tenants.now.present (g.H.Host.bytes c.args.host.now) before (counts_of (g.H.Host.retired c.args.host.now) (g.H.Host.passed c.args.host.now)) was (g.O.Sink.taken c.args.out.now)
+    let x = skipped_between c.args.kernels.now.items c.args.tenants.now.frames whole done pieces c.args.tenants.now.list.items
+    c.args.tenants.now.pool c.args.tenants.now.present (g.H.Host.bytes c.args.host.now) before
+    (counts_of (g.H.Host.retired c.args.host.now) (g.H.Host.passed c.args.host.now)) was (g.O.Sink.taken c.args.out.now)
     b c.args.slice.now next c.index.result.now met.0 (ap (λ (t : Tenant). t.stop) (sym c.index.ensures) ∙ is) in (
       x.0,
       inl (record {
         stop = met.0;
-        met = λ d. ap (λ (t : Tenant). t.stop) (get_or_any c.args.tenants.now.list.items c.args.slice.now.kernel d c.index.result.now (omega (arith, n, low)) ∙ sym c.index.ensures) ∙ is;
+        met = λ d. ap (λ (t : Tenant). t.stop)
+            (get_or_any c.args.tenants.now.list.items c.args.slice.now.kernel d c.index.result.now (omega (arith, n, low))
+            ∙ sym c.index.ensures) ∙ is;
         same = refl;
       }),
       x.1,
@@ -74,9 +78,13 @@ make_room-requires-clause-may g c =
     let len = s.between.rooms.len in
     let low = (next_slice _ s.whole s.done c.args.slice.now s.next).known in
     let lt : c.args.slice.now.kernel < length c.args.tenants.now.list.items = omega (arith, len, low) in
-    let b = brought_at c.args.kernels.now.items s.whole s.done s.pieces s.before (counts_of (g.H.Host.retired c.args.host.now) (g.H.Host.passed c.args.host.now)) (counts_of (g.H.Host.retired c.bring.new.host) (g.H.Host.passed c.bring.new.host))
-    (counts_of (g.H.Host.retired c.bring.new.host) (g.H.Host.passed c.bring.new.host)) s.old (g.O.Sink.taken c.args.out.now) c.args.slice.now.kernel c.args.tenants.now c.bring.new.self c.bring.new.self
-    (g.H.Host.bytes c.args.host.now) (g.H.Host.bytes c.bring.new.host) (g.H.Host.bytes c.bring.new.host) c.bring.ensures.brought c.bring.ensures.rest lt (counts_same _ _ _ _ c.bring.ensures.retired c.bring.ensures.passed) s.between in
+    let b = brought_at c.args.kernels.now.items s.whole s.done s.pieces s.before
+    (counts_of (g.H.Host.retired c.args.host.now) (g.H.Host.passed c.args.host.now))
+    (counts_of (g.H.Host.retired c.bring.new.host) (g.H.Host.passed c.bring.new.host))
+    (counts_of (g.H.Host.retired c.bring.new.host) (g.H.Host.passed c.bring.new.host)) s.old (g.O.Sink.taken c.args.out.now)
+    c.args.slice.now.kernel c.args.tenants.now c.bring.new.self c.bring.new.self
+    (g.H.Host.bytes c.args.host.now) (g.H.Host.bytes c.bring.new.host) (g.H.Host.bytes c.bring.new.host) c.bring.ensures.brought
+    c.bring.ensures.rest lt (counts_same _ _ _ _ c.bring.ensures.retired c.bring.ensures.passed) s.between in
     record {
       there = b.rooms.there;
       theirs = b.rooms.theirs;
@@ -90,14 +98,20 @@ index_mut-tenant-requires g c =
     let len = s.between.rooms.len in
     let low = (next_slice _ s.whole s.done c.args.slice.now s.next).known in
     let lt : c.args.slice.now.kernel < length c.args.tenants.now.list.items = omega (arith, len, low) in
-    let b = ready_at c.args.kernels.now.items s.whole s.done s.pieces s.before (counts_of (g.H.Host.retired c.args.host.now) (g.H.Host.passed c.args.host.now)) (counts_of (g.H.Host.retired c.bring.new.host) (g.H.Host.passed c.bring.new.host))
-    (counts_of (g.H.Host.retired c.make_room.new.host) (g.H.Host.passed c.make_room.new.host)) s.old (g.O.Sink.taken c.args.out.now) c.args.slice.now.kernel c.args.tenants.now c.bring.new.self c.make_room.new.self
-    (g.H.Host.bytes c.args.host.now) (g.H.Host.bytes c.bring.new.host) (g.H.Host.bytes c.make_room.new.host) c.bring.ensures.brought c.bring.ensures.rest lt (counts_same _ _ _ _ c.bring.ensures.retired c.bring.ensures.passed) s.between
-    c.make_room.ensures.made c.make_room.ensures.theirs c.make_room.ensures.size c.make_room.ensures.apart c.make_room.ensures.stay c.make_room.ensures.rest (counts_same _ _ _ _ c.make_room.ensures.retired c.make_room.ensures.passed) in
+    let b = ready_at c.args.kernels.now.items s.whole s.done s.pieces s.before
+    (counts_of (g.H.Host.retired c.args.host.now) (g.H.Host.passed c.args.host.now))
+    (counts_of (g.H.Host.retired c.bring.new.host) (g.H.Host.passed c.bring.new.host))
+    (counts_of (g.H.Host.retired c.make_room.new.host) (g.H.Host.passed c.make_room.new.host)) s.old (g.O.Sink.taken c.args.out.now)
+    c.args.slice.now.kernel c.args.tenants.now c.bring.new.self c.make_room.new.self
+    (g.H.Host.bytes c.args.host.now) (g.H.Host.bytes c.bring.new.host) (g.H.Host.bytes c.make_room.new.host) c.bring.ensures.brought
+    c.bring.ensures.rest lt (counts_same _ _ _ _ c.bring.ensures.retired c.bring.ensures.passed) s.between
+    c.make_room.ensures.made c.make_room.ensures.theirs c.make_room.ensures.size c.make_room.ensures.apart c.make_room.ensures.stay
+    c.make_room.ensures.rest (counts_same _ _ _ _ c.make_room.ensures.retired c.make_room.ensures.passed) in
     let there = b.rooms.there in omega (arith, there)
 
 pub index-requires-2 : goal.index-requires-2
-index-requires-2 g c = let low = (next_slice _ c.requires.next.whole c.requires.next.done c.args.slice.now c.requires.next.next).known in omega (arith, low)
+index-requires-2 g c = let low =
+    (next_slice _ c.requires.next.whole c.requires.next.done c.args.slice.now c.requires.next.next).known in omega (arith, low)
 
 pub go_on-requires-clause-number : goal.go_on-requires-clause-number
 go_on-requires-clause-number g c =
@@ -114,25 +128,39 @@ go_on-requires-clause-takes g c =
     let len = s.between.rooms.len in
     let low = (next_slice _ s.whole s.done c.args.slice.now s.next).known in
     let lt : c.args.slice.now.kernel < length c.args.tenants.now.list.items = omega (arith, len, low) in
-    let b = ready_at c.args.kernels.now.items s.whole s.done s.pieces s.before (counts_of (g.H.Host.retired c.args.host.now) (g.H.Host.passed c.args.host.now)) (counts_of (g.H.Host.retired c.bring.new.host) (g.H.Host.passed c.bring.new.host))
-    (counts_of (g.H.Host.retired c.make_room.new.host) (g.H.Host.passed c.make_room.new.host)) s.old (g.O.Sink.taken c.args.out.now) c.args.slice.now.kernel c.args.tenants.now c.bring.new.self c.make_room.new.self
-    (g.H.Host.bytes c.args.host.now) (g.H.Host.bytes c.bring.new.host) (g.H.Host.bytes c.make_room.new.host) c.bring.ensures.brought c.bring.ensures.rest lt (counts_same _ _ _ _ c.bring.ensures.retired c.bring.ensures.passed) s.between
-    c.make_room.ensures.made c.make_room.ensures.theirs c.make_room.ensures.size c.make_room.ensures.apart c.make_room.ensures.stay c.make_room.ensures.rest (counts_same _ _ _ _ c.make_room.ensures.retired c.make_room.ensures.passed) in
+    let b = ready_at c.args.kernels.now.items s.whole s.done s.pieces s.before
+    (counts_of (g.H.Host.retired c.args.host.now) (g.H.Host.passed c.args.host.now))
+    (counts_of (g.H.Host.retired c.bring.new.host) (g.H.Host.passed c.bring.new.host))
+    (counts_of (g.H.Host.retired c.make_room.new.host) (g.H.Host.passed c.make_room.new.host)) s.old (g.O.Sink.taken c.args.out.now)
+    c.args.slice.now.kernel c.args.tenants.now c.bring.new.self c.make_room.new.self
+    (g.H.Host.bytes c.args.host.now) (g.H.Host.bytes c.bring.new.host) (g.H.Host.bytes c.make_room.new.host) c.bring.ensures.brought
+    c.bring.ensures.rest lt (counts_same _ _ _ _ c.bring.ensures.retired c.bring.ensures.passed) s.between
+    c.make_room.ensures.made c.make_room.ensures.theirs c.make_room.ensures.size c.make_room.ensures.apart c.make_room.ensures.stay
+    c.make_room.ensures.rest (counts_same _ _ _ _ c.make_room.ensures.retired c.make_room.ensures.passed) in
     let live0 = live_of c.index.result.now.stop c.is_some.result c.is_some.ensures c.if-is_some.false in
     let d = c.index_mut-tenant.result.now in
-    let kept = stop_same c.args.kernels.now.items s.whole s.done s.pieces s.before (counts_of (g.H.Host.retired c.args.host.now) (g.H.Host.passed c.args.host.now)) (counts_of (g.H.Host.retired c.bring.new.host) (g.H.Host.passed c.bring.new.host))
-    (counts_of (g.H.Host.retired c.make_room.new.host) (g.H.Host.passed c.make_room.new.host)) s.old (g.O.Sink.taken c.args.out.now) c.args.slice.now.kernel c.args.tenants.now c.bring.new.self c.make_room.new.self
-    (g.H.Host.bytes c.args.host.now) (g.H.Host.bytes c.bring.new.host) (g.H.Host.bytes c.make_room.new.host) c.bring.ensures.brought c.bring.ensures.rest lt (counts_same _ _ _ _ c.bring.ensures.retired c.bring.ensures.passed) s.between
-    c.make_room.ensures.made c.make_room.ensures.theirs c.make_room.ensures.size c.make_room.ensures.apart c.make_room.ensures.stay c.make_room.ensures.rest (counts_same _ _ _ _ c.make_room.ensures.retired c.make_room.ensures.passed) d in
+    let kept = stop_same c.args.kernels.now.items s.whole s.done s.pieces s.before
+    (counts_of (g.H.Host.retired c.args.host.now) (g.H.Host.passed c.args.host.now))
+    (counts_of (g.H.Host.retired c.bring.new.host) (g.H.Host.passed c.bring.new.host))
+    (counts_of (g.H.Host.retired c.make_room.new.host) (g.H.Host.passed c.make_room.new.host)) s.old (g.O.Sink.taken c.args.out.now)
+    c.args.slice.now.kernel c.args.tenants.now c.bring.new.self c.make_room.new.self
+    (g.H.Host.bytes c.args.host.now) (g.H.Host.bytes c.bring.new.host) (g.H.Host.bytes c.make_room.new.host) c.bring.ensures.brought
+    c.bring.ensures.rest lt (counts_same _ _ _ _ c.bring.ensures.retired c.bring.ensures.passed) s.between
+    c.make_room.ensures.made c.make_room.ensures.theirs c.make_room.ensures.size c.make_room.ensures.apart c.make_room.ensures.stay
+    c.make_room.ensures.rest (counts_same _ _ _ _ c.make_room.ensures.retired c.make_room.ensures.passed) d in
     let at0 = get_or_any c.args.tenants.now.list.items c.args.slice.now.kernel c.index.result.now d lt in
-    let live : d.stop ≡ None = ap (λ (t : Tenant). t.stop) c.index_mut-tenant.ensures.value ∙ kept ∙ ap (λ (t : Tenant). t.stop) (sym at0) ∙ ap (λ (t : Tenant). t.stop) (sym c.index.ensures) ∙ live0 in
+    let live : d.stop ≡ None = ap (λ (t : Tenant). t.stop) c.index_mut-tenant.ensures.value ∙ kept ∙ ap (λ (t : Tenant). t.stop) (sym at0)
+    ∙ ap (λ (t : Tenant). t.stop) (sym c.index.ensures) ∙ live0 in
     let e = c.make_room.ensures.released.enough d in
     let same = ap (λ n. (get_or c.make_room.new.self.list.items n d).guest.held) (c.make_room.ensures.rest.1 ∙ c.bring.ensures.rest.2) in
     let value = ap (λ (t : Tenant). t.guest.held) c.index_mut-tenant.ensures.value in
     record {
       fresh = live;
       goes_on =
-          goes_on_at c.args.kernels.now.items c.args.tenants.now.frames s.whole s.done s.pieces c.make_room.new.self.list.items c.make_room.new.self.pool (g.H.Host.bytes c.make_room.new.host) s.before (counts_of (g.H.Host.retired c.make_room.new.host) (g.H.Host.passed c.make_room.new.host)) s.old (g.O.Sink.taken c.args.out.now) c.args.slice.now b s.next
+          goes_on_at c.args.kernels.now.items c.args.tenants.now.frames s.whole s.done s.pieces c.make_room.new.self.list.items
+          c.make_room.new.self.pool (g.H.Host.bytes c.make_room.new.host) s.before
+          (counts_of (g.H.Host.retired c.make_room.new.host) (g.H.Host.passed c.make_room.new.host)) s.old (g.O.Sink.taken c.args.out.now)
+          c.args.slice.now b s.next
           c.index-2.result.now d c.index-2.ensures c.index_mut-tenant.ensures.value live;
       enough = omega (arith, e, same, value);
     }
@@ -140,7 +168,8 @@ go_on-requires-clause-takes g c =
 pub go_on-requires-clause-script : goal.go_on-requires-clause-script
 go_on-requires-clause-script g c =
     let low = (next_slice _ c.requires.next.whole c.requires.next.done c.args.slice.now c.requires.next.next).known in
-    subst (λ (k : Kernel). is_script k.script.list ≡ true) (sym c.index-2.ensures) (c.requires.scripts c.args.slice.now.kernel c.index-2.result.now low)
+    subst (λ (k : Kernel). is_script k.script.list ≡ true) (sym c.index-2.ensures)
+    (c.requires.scripts c.args.slice.now.kernel c.index-2.result.now low)
 
 pub go_on-requires-clause-bound : goal.go_on-requires-clause-bound
 go_on-requires-clause-bound g c =
@@ -148,19 +177,33 @@ go_on-requires-clause-bound g c =
     let len = s.between.rooms.len in
     let low = (next_slice _ s.whole s.done c.args.slice.now s.next).known in
     let lt : c.args.slice.now.kernel < length c.args.tenants.now.list.items = omega (arith, len, low) in
-    let b = ready_at c.args.kernels.now.items s.whole s.done s.pieces s.before (counts_of (g.H.Host.retired c.args.host.now) (g.H.Host.passed c.args.host.now)) (counts_of (g.H.Host.retired c.bring.new.host) (g.H.Host.passed c.bring.new.host))
-    (counts_of (g.H.Host.retired c.make_room.new.host) (g.H.Host.passed c.make_room.new.host)) s.old (g.O.Sink.taken c.args.out.now) c.args.slice.now.kernel c.args.tenants.now c.bring.new.self c.make_room.new.self
-    (g.H.Host.bytes c.args.host.now) (g.H.Host.bytes c.bring.new.host) (g.H.Host.bytes c.make_room.new.host) c.bring.ensures.brought c.bring.ensures.rest lt (counts_same _ _ _ _ c.bring.ensures.retired c.bring.ensures.passed) s.between
-    c.make_room.ensures.made c.make_room.ensures.theirs c.make_room.ensures.size c.make_room.ensures.apart c.make_room.ensures.stay c.make_room.ensures.rest (counts_same _ _ _ _ c.make_room.ensures.retired c.make_room.ensures.passed) in
+    let b = ready_at c.args.kernels.now.items s.whole s.done s.pieces s.before
+    (counts_of (g.H.Host.retired c.args.host.now) (g.H.Host.passed c.args.host.now))
+    (counts_of (g.H.Host.retired c.bring.new.host) (g.H.Host.passed c.bring.new.host))
+    (counts_of (g.H.Host.retired c.make_room.new.host) (g.H.Host.passed c.make_room.new.host)) s.old (g.O.Sink.taken c.args.out.now)
+    c.args.slice.now.kernel c.args.tenants.now c.bring.new.self c.make_room.new.self
+    (g.H.Host.bytes c.args.host.now) (g.H.Host.bytes c.bring.new.host) (g.H.Host.bytes c.make_room.new.host) c.bring.ensures.brought
+    c.bring.ensures.rest lt (counts_same _ _ _ _ c.bring.ensures.retired c.bring.ensures.passed) s.between
+    c.make_room.ensures.made c.make_room.ensures.theirs c.make_room.ensures.size c.make_room.ensures.apart c.make_room.ensures.stay
+    c.make_room.ensures.rest (counts_same _ _ _ _ c.make_room.ensures.retired c.make_room.ensures.passed) in
     let live0 = live_of c.index.result.now.stop c.is_some.result c.is_some.ensures c.if-is_some.false in
     let d = c.index_mut-tenant.result.now in
-    let kept = stop_same c.args.kernels.now.items s.whole s.done s.pieces s.before (counts_of (g.H.Host.retired c.args.host.now) (g.H.Host.passed c.args.host.now)) (counts_of (g.H.Host.retired c.bring.new.host) (g.H.Host.passed c.bring.new.host))
-    (counts_of (g.H.Host.retired c.make_room.new.host) (g.H.Host.passed c.make_room.new.host)) s.old (g.O.Sink.taken c.args.out.now) c.args.slice.now.kernel c.args.tenants.now c.bring.new.self c.make_room.new.self
-    (g.H.Host.bytes c.args.host.now) (g.H.Host.bytes c.bring.new.host) (g.H.Host.bytes c.make_room.new.host) c.bring.ensures.brought c.bring.ensures.rest lt (counts_same _ _ _ _ c.bring.ensures.retired c.bring.ensures.passed) s.between
-    c.make_room.ensures.made c.make_room.ensures.theirs c.make_room.ensures.size c.make_room.ensures.apart c.make_room.ensures.stay c.make_room.ensures.rest (counts_same _ _ _ _ c.make_room.ensures.retired c.make_room.ensures.passed) d in
+    let kept = stop_same c.args.kernels.now.items s.whole s.done s.pieces s.before
+    (counts_of (g.H.Host.retired c.args.host.now) (g.H.Host.passed c.args.host.now))
+    (counts_of (g.H.Host.retired c.bring.new.host) (g.H.Host.passed c.bring.new.host))
+    (counts_of (g.H.Host.retired c.make_room.new.host) (g.H.Host.passed c.make_room.new.host)) s.old (g.O.Sink.taken c.args.out.now)
+    c.args.slice.now.kernel c.args.tenants.now c.bring.new.self c.make_room.new.self
+    (g.H.Host.bytes c.args.host.now) (g.H.Host.bytes c.bring.new.host) (g.H.Host.bytes c.make_room.new.host) c.bring.ensures.brought
+    c.bring.ensures.rest lt (counts_same _ _ _ _ c.bring.ensures.retired c.bring.ensures.passed) s.between
+    c.make_room.ensures.made c.make_room.ensures.theirs c.make_room.ensures.size c.make_room.ensures.apart c.make_room.ensures.stay
+    c.make_room.ensures.rest (counts_same _ _ _ _ c.make_room.ensures.retired c.make_room.ensures.passed) d in
     let at0 = get_or_any c.args.tenants.now.list.items c.args.slice.now.kernel c.index.result.now d lt in
-    let live : d.stop ≡ None = ap (λ (t : Tenant). t.stop) c.index_mut-tenant.ensures.value ∙ kept ∙ ap (λ (t : Tenant). t.stop) (sym at0) ∙ ap (λ (t : Tenant). t.stop) (sym c.index.ensures) ∙ live0 in
-    bound_at c.args.kernels.now.items c.args.tenants.now.frames s.whole s.done s.pieces c.make_room.new.self.list.items c.make_room.new.self.pool (g.H.Host.bytes c.make_room.new.host) s.before (counts_of (g.H.Host.retired c.make_room.new.host) (g.H.Host.passed c.make_room.new.host)) s.old (g.O.Sink.taken c.args.out.now) c.args.slice.now b s.next
+    let live : d.stop ≡ None = ap (λ (t : Tenant). t.stop) c.index_mut-tenant.ensures.value ∙ kept ∙ ap (λ (t : Tenant). t.stop) (sym at0)
+    ∙ ap (λ (t : Tenant). t.stop) (sym c.index.ensures) ∙ live0 in
+    bound_at c.args.kernels.now.items c.args.tenants.now.frames s.whole s.done s.pieces c.make_room.new.self.list.items
+    c.make_room.new.self.pool (g.H.Host.bytes c.make_room.new.host) s.before
+    (counts_of (g.H.Host.retired c.make_room.new.host) (g.H.Host.passed c.make_room.new.host)) s.old (g.O.Sink.taken c.args.out.now)
+    c.args.slice.now b s.next
     c.index-2.result.now d c.index-2.ensures c.index_mut-tenant.ensures.value live
 
 pub go_on-requires-clause-room : goal.go_on-requires-clause-room
@@ -169,10 +212,15 @@ go_on-requires-clause-room g c =
     let len = s.between.rooms.len in
     let low = (next_slice _ s.whole s.done c.args.slice.now s.next).known in
     let lt : c.args.slice.now.kernel < length c.args.tenants.now.list.items = omega (arith, len, low) in
-    let b = ready_at c.args.kernels.now.items s.whole s.done s.pieces s.before (counts_of (g.H.Host.retired c.args.host.now) (g.H.Host.passed c.args.host.now)) (counts_of (g.H.Host.retired c.bring.new.host) (g.H.Host.passed c.bring.new.host))
-    (counts_of (g.H.Host.retired c.make_room.new.host) (g.H.Host.passed c.make_room.new.host)) s.old (g.O.Sink.taken c.args.out.now) c.args.slice.now.kernel c.args.tenants.now c.bring.new.self c.make_room.new.self
-    (g.H.Host.bytes c.args.host.now) (g.H.Host.bytes c.bring.new.host) (g.H.Host.bytes c.make_room.new.host) c.bring.ensures.brought c.bring.ensures.rest lt (counts_same _ _ _ _ c.bring.ensures.retired c.bring.ensures.passed) s.between
-    c.make_room.ensures.made c.make_room.ensures.theirs c.make_room.ensures.size c.make_room.ensures.apart c.make_room.ensures.stay c.make_room.ensures.rest (counts_same _ _ _ _ c.make_room.ensures.retired c.make_room.ensures.passed) in
+    let b = ready_at c.args.kernels.now.items s.whole s.done s.pieces s.before
+    (counts_of (g.H.Host.retired c.args.host.now) (g.H.Host.passed c.args.host.now))
+    (counts_of (g.H.Host.retired c.bring.new.host) (g.H.Host.passed c.bring.new.host))
+    (counts_of (g.H.Host.retired c.make_room.new.host) (g.H.Host.passed c.make_room.new.host)) s.old (g.O.Sink.taken c.args.out.now)
+    c.args.slice.now.kernel c.args.tenants.now c.bring.new.self c.make_room.new.self
+    (g.H.Host.bytes c.args.host.now) (g.H.Host.bytes c.bring.new.host) (g.H.Host.bytes c.make_room.new.host) c.bring.ensures.brought
+    c.bring.ensures.rest lt (counts_same _ _ _ _ c.bring.ensures.retired c.bring.ensures.passed) s.between
+    c.make_room.ensures.made c.make_room.ensures.theirs c.make_room.ensures.size c.make_room.ensures.apart c.make_room.ensures.stay
+    c.make_room.ensures.rest (counts_same _ _ _ _ c.make_room.ensures.retired c.make_room.ensures.passed) in
     room_at (g.H.Host.retired c.make_room.new.host) 0 s.before _ s.whole s.done c.args.slice.now s.next b.retired s.few
 
 pub returns-clause-frames : goal.returns-clause-frames
@@ -186,29 +234,60 @@ returns-clause-turned g c =
     let lt : c.args.slice.now.kernel < length c.args.tenants.now.list.items = omega (arith, len, low) in
     let live0 = live_of c.index.result.now.stop c.is_some.result c.is_some.ensures c.if-is_some.false in
     let d = c.index_mut-tenant.result.now in
-    let kept = stop_same c.args.kernels.now.items s.whole s.done s.pieces s.before (counts_of (g.H.Host.retired c.args.host.now) (g.H.Host.passed c.args.host.now)) (counts_of (g.H.Host.retired c.bring.new.host) (g.H.Host.passed c.bring.new.host))
-    (counts_of (g.H.Host.retired c.make_room.new.host) (g.H.Host.passed c.make_room.new.host)) s.old (g.O.Sink.taken c.args.out.now) c.args.slice.now.kernel c.args.tenants.now c.bring.new.self c.make_room.new.self
-    (g.H.Host.bytes c.args.host.now) (g.H.Host.bytes c.bring.new.host) (g.H.Host.bytes c.make_room.new.host) c.bring.ensures.brought c.bring.ensures.rest lt (counts_same _ _ _ _ c.bring.ensures.retired c.bring.ensures.passed) s.between
-    c.make_room.ensures.made c.make_room.ensures.theirs c.make_room.ensures.size c.make_room.ensures.apart c.make_room.ensures.stay c.make_room.ensures.rest (counts_same _ _ _ _ c.make_room.ensures.retired c.make_room.ensures.passed) d in
+    let kept = stop_same c.args.kernels.now.items s.whole s.done s.pieces s.before
+    (counts_of (g.H.Host.retired c.args.host.now) (g.H.Host.passed c.args.host.now))
+    (counts_of (g.H.Host.retired c.bring.new.host) (g.H.Host.passed c.bring.new.host))
+    (counts_of (g.H.Host.retired c.make_room.new.host) (g.H.Host.passed c.make_room.new.host)) s.old (g.O.Sink.taken c.args.out.now)
+    c.args.slice.now.kernel c.args.tenants.now c.bring.new.self c.make_room.new.self
+    (g.H.Host.bytes c.args.host.now) (g.H.Host.bytes c.bring.new.host) (g.H.Host.bytes c.make_room.new.host) c.bring.ensures.brought
+    c.bring.ensures.rest lt (counts_same _ _ _ _ c.bring.ensures.retired c.bring.ensures.passed) s.between
+    c.make_room.ensures.made c.make_room.ensures.theirs c.make_room.ensures.size c.make_room.ensures.apart c.make_room.ensures.stay
+    c.make_room.ensures.rest (counts_same _ _ _ _ c.make_room.ensures.retired c.make_room.ensures.passed) d in
     let at0 = get_or_any c.args.tenants.now.list.items c.args.slice.now.kernel c.index.result.now d lt in
-    let live : d.stop ≡ None = ap (λ (t : Tenant). t.stop) c.index_mut-tenant.ensures.value ∙ kept ∙ ap (λ (t : Tenant). t.stop) (sym at0) ∙ ap (λ (t : Tenant). t.stop) (sym c.index.ensures) ∙ live0 in
+    let live : d.stop ≡ None = ap (λ (t : Tenant). t.stop) c.index_mut-tenant.ensures.value ∙ kept ∙ ap (λ (t : Tenant). t.stop) (sym at0)
+    ∙ ap (λ (t : Tenant). t.stop) (sym c.index.ensures) ∙ live0 in
     on_ok_both c.go_on.result c.go_on.ensures.turned c.go_on.ensures.gone (λ turned gone whole done pieces before was next b0.
-    let b = ready_at c.args.kernels.now.items whole done pieces before (counts_of (g.H.Host.retired c.args.host.now) (g.H.Host.passed c.args.host.now)) (counts_of (g.H.Host.retired c.bring.new.host) (g.H.Host.passed c.bring.new.host))
-    (counts_of (g.H.Host.retired c.make_room.new.host) (g.H.Host.passed c.make_room.new.host)) was (g.O.Sink.taken c.args.out.now) c.args.slice.now.kernel c.args.tenants.now c.bring.new.self c.make_room.new.self
-    (g.H.Host.bytes c.args.host.now) (g.H.Host.bytes c.bring.new.host) (g.H.Host.bytes c.make_room.new.host) c.bring.ensures.brought c.bring.ensures.rest lt (counts_same _ _ _ _ c.bring.ensures.retired c.bring.ensures.passed) b0
-    c.make_room.ensures.made c.make_room.ensures.theirs c.make_room.ensures.size c.make_room.ensures.apart c.make_room.ensures.stay c.make_room.ensures.rest (counts_same _ _ _ _ c.make_room.ensures.retired c.make_room.ensures.passed) in
-    let x = went_at c.args.kernels.now.items c.args.tenants.now.frames whole done pieces c.make_room.new.self.list.items c.make_room.new.self.pool (g.H.Host.bytes c.make_room.new.host) before (counts_of (g.H.Host.retired c.make_room.new.host) (g.H.Host.passed c.make_room.new.host)) was (g.O.Sink.taken c.args.out.now) c.args.slice.now b next
-    c.index-2.result.now d c.index-2.ensures c.index_mut-tenant.ensures.value live c.go_on.new.tenant c.go_on.new.pool (g.H.Host.bytes c.go_on.new.host) (counts_of (g.H.Host.retired c.go_on.new.host) (g.H.Host.passed c.go_on.new.host)) (g.O.Sink.taken c.go_on.new.out) turned gone in
+    let b = ready_at c.args.kernels.now.items whole done pieces before
+    (counts_of (g.H.Host.retired c.args.host.now) (g.H.Host.passed c.args.host.now))
+    (counts_of (g.H.Host.retired c.bring.new.host) (g.H.Host.passed c.bring.new.host))
+    (counts_of (g.H.Host.retired c.make_room.new.host) (g.H.Host.passed c.make_room.new.host)) was (g.O.Sink.taken c.args.out.now)
+    c.args.slice.now.kernel c.args.tenants.now c.bring.new.self c.make_room.new.self
+    (g.H.Host.bytes c.args.host.now) (g.H.Host.bytes c.bring.new.host) (g.H.Host.bytes c.make_room.new.host) c.bring.ensures.brought
+    c.bring.ensures.rest lt (counts_same _ _ _ _ c.bring.ensures.retired c.bring.ensures.passed) b0
+    c.make_room.ensures.made c.make_room.ensures.theirs c.make_room.ensures.size c.make_room.ensures.apart c.make_room.ensures.stay
+    c.make_room.ensures.rest (counts_same _ _ _ _ c.make_room.ensures.retired c.make_room.ensures.passed) in
+    let x = went_at c.args.kernels.now.items c.args.tenants.now.frames whole done pieces c.make_room.new.self.list.items
+    c.make_room.new.self.pool (g.H.Host.bytes c.make_room.new.host) before
+    (counts_of (g.H.Host.retired c.make_room.new.host) (g.H.Host.passed c.make_room.new.host)) was (g.O.Sink.taken c.args.out.now)
+    c.args.slice.now b next
+    c.index-2.result.now d c.index-2.ensures c.index_mut-tenant.ensures.value live c.go_on.new.tenant c.go_on.new.pool
+    (g.H.Host.bytes c.go_on.new.host) (counts_of (g.H.Host.retired c.go_on.new.host) (g.H.Host.passed c.go_on.new.host))
+    (g.O.Sink.taken c.go_on.new.out) turned gone in
     let there : c.make_room.new.self.present ≡ c.args.slice.now.kernel = c.make_room.ensures.rest.1 ∙ c.bring.ensures.rest.2 in
-    subst (λ n. (p : Piece) × GoesRound c.args.kernels.now.items c.args.tenants.now.frames c.args.slice.now p (stage c.args.tenants.now (g.H.Host.bytes c.args.host.now))
-    (record { tenants = set c.make_room.new.self.list.items c.args.slice.now.kernel c.go_on.new.tenant; pool = c.go_on.new.pool; present = n; memory = g.H.Host.bytes c.go_on.new.host })
-    × IsBetween c.args.kernels.now.items c.args.tenants.now.frames whole (done ++ c.args.slice.now ∷ []) (pieces ++ p ∷ []) (set c.make_room.new.self.list.items c.args.slice.now.kernel c.go_on.new.tenant) c.go_on.new.pool n (g.H.Host.bytes c.go_on.new.host) before
+    subst (λ n. (p : Piece) × GoesRound c.args.kernels.now.items c.args.tenants.now.frames c.args.slice.now p
+    (stage c.args.tenants.now (g.H.Host.bytes c.args.host.now))
+    (record {
+      tenants = set c.make_room.new.self.list.items c.args.slice.now.kernel c.go_on.new.tenant;
+      pool = c.go_on.new.pool;
+      present = n;
+      memory = g.H.Host.bytes c.go_on.new.host;
+    })
+    × IsBetween c.args.kernels.now.items c.args.tenants.now.frames whole (done ++ c.args.slice.now ∷ []) (pieces ++ p ∷ [])
+    (set c.make_room.new.self.list.items c.args.slice.now.kernel c.go_on.new.tenant) c.go_on.new.pool n
+    (g.H.Host.bytes c.go_on.new.host) before
     (counts_of (g.H.Host.retired c.go_on.new.host) (g.H.Host.passed c.go_on.new.host)) was (g.O.Sink.taken c.go_on.new.out)) (sym there) (
       x.0,
       inr (record {
-        ready = record { tenants = c.make_room.new.self.list.items; pool = c.make_room.new.self.pool; present = c.args.slice.now.kernel; memory = g.H.Host.bytes c.make_room.new.host };
-        comes = comes_in c.args.slice.now c.args.tenants.now c.bring.new.self c.make_room.new.self (g.H.Host.bytes c.args.host.now) (g.H.Host.bytes c.bring.new.host) (g.H.Host.bytes c.make_room.new.host)
-            (λ e. ap (λ (t : Tenant). t.stop) (get_or_any c.args.tenants.now.list.items c.args.slice.now.kernel e c.index.result.now lt ∙ sym c.index.ensures) ∙ live0)
+        ready = record {
+          tenants = c.make_room.new.self.list.items;
+          pool = c.make_room.new.self.pool;
+          present = c.args.slice.now.kernel;
+          memory = g.H.Host.bytes c.make_room.new.host;
+        };
+        comes = comes_in c.args.slice.now c.args.tenants.now c.bring.new.self c.make_room.new.self (g.H.Host.bytes c.args.host.now)
+            (g.H.Host.bytes c.bring.new.host) (g.H.Host.bytes c.make_room.new.host)
+            (λ e. ap (λ (t : Tenant). t.stop) (get_or_any c.args.tenants.now.list.items c.args.slice.now.kernel e c.index.result.now lt
+            ∙ sym c.index.ensures) ∙ live0)
             c.bring.ensures.brought c.bring.ensures.rest.0 c.bring.ensures.rest.2 there c.make_room.ensures.released;
         turn = x.1;
       }),
@@ -223,25 +302,47 @@ returns-clause-failed g c =
     let lt : c.args.slice.now.kernel < length c.args.tenants.now.list.items = omega (arith, len, low) in
     let live0 = live_of c.index.result.now.stop c.is_some.result c.is_some.ensures c.if-is_some.false in
     let d = c.index_mut-tenant.result.now in
-    let kept = stop_same c.args.kernels.now.items s.whole s.done s.pieces s.before (counts_of (g.H.Host.retired c.args.host.now) (g.H.Host.passed c.args.host.now)) (counts_of (g.H.Host.retired c.bring.new.host) (g.H.Host.passed c.bring.new.host))
-    (counts_of (g.H.Host.retired c.make_room.new.host) (g.H.Host.passed c.make_room.new.host)) s.old (g.O.Sink.taken c.args.out.now) c.args.slice.now.kernel c.args.tenants.now c.bring.new.self c.make_room.new.self
-    (g.H.Host.bytes c.args.host.now) (g.H.Host.bytes c.bring.new.host) (g.H.Host.bytes c.make_room.new.host) c.bring.ensures.brought c.bring.ensures.rest lt (counts_same _ _ _ _ c.bring.ensures.retired c.bring.ensures.passed) s.between
-    c.make_room.ensures.made c.make_room.ensures.theirs c.make_room.ensures.size c.make_room.ensures.apart c.make_room.ensures.stay c.make_room.ensures.rest (counts_same _ _ _ _ c.make_room.ensures.retired c.make_room.ensures.passed) d in
+    let kept = stop_same c.args.kernels.now.items s.whole s.done s.pieces s.before
+    (counts_of (g.H.Host.retired c.args.host.now) (g.H.Host.passed c.args.host.now))
+    (counts_of (g.H.Host.retired c.bring.new.host) (g.H.Host.passed c.bring.new.host))
+    (counts_of (g.H.Host.retired c.make_room.new.host) (g.H.Host.passed c.make_room.new.host)) s.old (g.O.Sink.taken c.args.out.now)
+    c.args.slice.now.kernel c.args.tenants.now c.bring.new.self c.make_room.new.self
+    (g.H.Host.bytes c.args.host.now) (g.H.Host.bytes c.bring.new.host) (g.H.Host.bytes c.make_room.new.host) c.bring.ensures.brought
+    c.bring.ensures.rest lt (counts_same _ _ _ _ c.bring.ensures.retired c.bring.ensures.passed) s.between
+    c.make_room.ensures.made c.make_room.ensures.theirs c.make_room.ensures.size c.make_room.ensures.apart c.make_room.ensures.stay
+    c.make_room.ensures.rest (counts_same _ _ _ _ c.make_room.ensures.retired c.make_room.ensures.passed) d in
     let at0 = get_or_any c.args.tenants.now.list.items c.args.slice.now.kernel c.index.result.now d lt in
-    let live : d.stop ≡ None = ap (λ (t : Tenant). t.stop) c.index_mut-tenant.ensures.value ∙ kept ∙ ap (λ (t : Tenant). t.stop) (sym at0) ∙ ap (λ (t : Tenant). t.stop) (sym c.index.ensures) ∙ live0 in
+    let live : d.stop ≡ None = ap (λ (t : Tenant). t.stop) c.index_mut-tenant.ensures.value ∙ kept ∙ ap (λ (t : Tenant). t.stop) (sym at0)
+    ∙ ap (λ (t : Tenant). t.stop) (sym c.index.ensures) ∙ live0 in
     on_err_then c.go_on.result c.go_on.ensures.failed (λ failed whole done pieces before was next b0 gone.
-    let b = ready_at c.args.kernels.now.items whole done pieces before (counts_of (g.H.Host.retired c.args.host.now) (g.H.Host.passed c.args.host.now)) (counts_of (g.H.Host.retired c.bring.new.host) (g.H.Host.passed c.bring.new.host))
-    (counts_of (g.H.Host.retired c.make_room.new.host) (g.H.Host.passed c.make_room.new.host)) was (g.O.Sink.taken c.args.out.now) c.args.slice.now.kernel c.args.tenants.now c.bring.new.self c.make_room.new.self
-    (g.H.Host.bytes c.args.host.now) (g.H.Host.bytes c.bring.new.host) (g.H.Host.bytes c.make_room.new.host) c.bring.ensures.brought c.bring.ensures.rest lt (counts_same _ _ _ _ c.bring.ensures.retired c.bring.ensures.passed) b0
-    c.make_room.ensures.made c.make_room.ensures.theirs c.make_room.ensures.size c.make_room.ensures.apart c.make_room.ensures.stay c.make_room.ensures.rest (counts_same _ _ _ _ c.make_room.ensures.retired c.make_room.ensures.passed) in
-    failed_at c.args.kernels.now.items c.args.tenants.now.frames whole done pieces c.make_room.new.self.list.items c.make_room.new.self.pool (g.H.Host.bytes c.make_room.new.host) before (counts_of (g.H.Host.retired c.make_room.new.host) (g.H.Host.passed c.make_room.new.host)) was (g.O.Sink.taken c.args.out.now) c.args.slice.now b next
-    c.index-2.result.now d c.index-2.ensures c.index_mut-tenant.ensures.value live (g.O.Sink.taken c.go_on.new.out) failed (λ p begins. record {
+    let b = ready_at c.args.kernels.now.items whole done pieces before
+    (counts_of (g.H.Host.retired c.args.host.now) (g.H.Host.passed c.args.host.now))
+    (counts_of (g.H.Host.retired c.bring.new.host) (g.H.Host.passed c.bring.new.host))
+    (counts_of (g.H.Host.retired c.make_room.new.host) (g.H.Host.passed c.make_room.new.host)) was (g.O.Sink.taken c.args.out.now)
+    c.args.slice.now.kernel c.args.tenants.now c.bring.new.self c.make_room.new.self
+    (g.H.Host.bytes c.args.host.now) (g.H.Host.bytes c.bring.new.host) (g.H.Host.bytes c.make_room.new.host) c.bring.ensures.brought
+    c.bring.ensures.rest lt (counts_same _ _ _ _ c.bring.ensures.retired c.bring.ensures.passed) b0
+    c.make_room.ensures.made c.make_room.ensures.theirs c.make_room.ensures.size c.make_room.ensures.apart c.make_room.ensures.stay
+    c.make_room.ensures.rest (counts_same _ _ _ _ c.make_room.ensures.retired c.make_room.ensures.passed) in
+    failed_at c.args.kernels.now.items c.args.tenants.now.frames whole done pieces c.make_room.new.self.list.items c.make_room.new.self.pool
+    (g.H.Host.bytes c.make_room.new.host) before (counts_of (g.H.Host.retired c.make_room.new.host) (g.H.Host.passed c.make_room.new.host))
+    was (g.O.Sink.taken c.args.out.now) c.args.slice.now b next
+    c.index-2.result.now d c.index-2.ensures c.index_mut-tenant.ensures.value live (g.O.Sink.taken c.go_on.new.out) failed
+    (λ p begins. record {
       between = stage c.args.tenants.now (g.H.Host.bytes c.args.host.now);
       gone = gone;
-      ready = record { tenants = c.make_room.new.self.list.items; pool = c.make_room.new.self.pool; present = c.args.slice.now.kernel; memory = g.H.Host.bytes c.make_room.new.host };
-      comes = comes_in c.args.slice.now c.args.tenants.now c.bring.new.self c.make_room.new.self (g.H.Host.bytes c.args.host.now) (g.H.Host.bytes c.bring.new.host) (g.H.Host.bytes c.make_room.new.host)
-          (λ e. ap (λ (t : Tenant). t.stop) (get_or_any c.args.tenants.now.list.items c.args.slice.now.kernel e c.index.result.now lt ∙ sym c.index.ensures) ∙ live0)
-          c.bring.ensures.brought c.bring.ensures.rest.0 c.bring.ensures.rest.2 (c.make_room.ensures.rest.1 ∙ c.bring.ensures.rest.2) c.make_room.ensures.released;
+      ready = record {
+        tenants = c.make_room.new.self.list.items;
+        pool = c.make_room.new.self.pool;
+        present = c.args.slice.now.kernel;
+        memory = g.H.Host.bytes c.make_room.new.host;
+      };
+      comes = comes_in c.args.slice.now c.args.tenants.now c.bring.new.self c.make_room.new.self (g.H.Host.bytes c.args.host.now)
+          (g.H.Host.bytes c.bring.new.host) (g.H.Host.bytes c.make_room.new.host)
+          (λ e. ap (λ (t : Tenant). t.stop) (get_or_any c.args.tenants.now.list.items c.args.slice.now.kernel e c.index.result.now lt
+          ∙ sym c.index.ensures) ∙ live0)
+          c.bring.ensures.brought c.bring.ensures.rest.0 c.bring.ensures.rest.2 (c.make_room.ensures.rest.1 ∙ c.bring.ensures.rest.2)
+          c.make_room.ensures.released;
       turn = begins;
     }))
 

@@ -7,11 +7,13 @@ use Rattle.guest_sched.proofs.Takes.{rose_more}
 use Rattle.guest_sched.proofs.tagged.put_after.Goals as goal
 
 -- after a first put that was done
-both_done : {T E : Type 0} (result : Result T E) (old mid new : Option (List ℕ)) (xs ys : List ℕ) → Appends old mid xs → OnOk result (Appends mid new ys) → OnOk result (Appends old new (xs ++ ys))
+both_done : {T E : Type 0} (result : Result T E) (old mid new : Option (List ℕ)) (xs ys : List ℕ) → Appends old mid xs
+    → OnOk result (Appends mid new ys) → OnOk result (Appends old new (xs ++ ys))
 both_done (Ok done) old mid new xs ys first second = both old mid new xs ys first second
 both_done (Err failed) old mid new xs ys first second = tt
 
-then_begun : {T E : Type 0} (result : Result T E) (old mid new : Option (List ℕ)) (xs ys : List ℕ) → Appends old mid xs → OnErr result (AppendsFront mid new ys) → OnErr result (AppendsFront old new (xs ++ ys))
+then_begun : {T E : Type 0} (result : Result T E) (old mid new : Option (List ℕ)) (xs ys : List ℕ) → Appends old mid xs
+    → OnErr result (AppendsFront mid new ys) → OnErr result (AppendsFront old new (xs ++ ys))
 then_begun (Ok done) old mid new xs ys first second = tt
 then_begun (Err failed) old mid new xs ys first second = then_front old mid new xs ys first second
 
@@ -38,24 +40,29 @@ returns-then-begun-clause-cause g c = c.put.ensures.cause
 pub returns-in-Ok-clause-ok : goal.returns-in-Ok-clause-ok
 returns-in-Ok-clause-ok g c =
     rw c.if-begun.false
-    (both_done c.put-in-Ok.result (g.O.Sink.taken c.args.out.now) (g.O.Sink.taken c.put-2.new.self) (g.O.Sink.taken c.put-in-Ok.new.self) c.args.tag.now c.args.line.now c.in-Ok.ensures.ok c.put-in-Ok.ensures.ok)
+    (both_done c.put-in-Ok.result (g.O.Sink.taken c.args.out.now) (g.O.Sink.taken c.put-2.new.self) (g.O.Sink.taken c.put-in-Ok.new.self)
+    c.args.tag.now c.args.line.now c.in-Ok.ensures.ok c.put-in-Ok.ensures.ok)
 
 pub returns-in-Ok-clause-failed : goal.returns-in-Ok-clause-failed
 returns-in-Ok-clause-failed g c =
     rw c.if-begun.false
-    (then_begun c.put-in-Ok.result (g.O.Sink.taken c.args.out.now) (g.O.Sink.taken c.put-2.new.self) (g.O.Sink.taken c.put-in-Ok.new.self) c.args.tag.now c.args.line.now c.in-Ok.ensures.ok c.put-in-Ok.ensures.failed)
+    (then_begun c.put-in-Ok.result (g.O.Sink.taken c.args.out.now) (g.O.Sink.taken c.put-2.new.self) (g.O.Sink.taken c.put-in-Ok.new.self)
+    c.args.tag.now c.args.line.now c.in-Ok.ensures.ok c.put-in-Ok.ensures.failed)
 
 pub returns-in-Ok-clause-kept : goal.returns-in-Ok-clause-kept
 returns-in-Ok-clause-kept g c =
-    then_kept c.put-in-Ok.result (g.O.Sink.faults c.args.out.now) (g.O.Sink.faults c.put-2.new.self) (g.O.Sink.faults c.put-in-Ok.new.self) c.in-Ok.ensures.kept c.put-in-Ok.ensures.kept
+    then_kept c.put-in-Ok.result (g.O.Sink.faults c.args.out.now) (g.O.Sink.faults c.put-2.new.self) (g.O.Sink.faults c.put-in-Ok.new.self)
+    c.in-Ok.ensures.kept c.put-in-Ok.ensures.kept
 
 pub returns-in-Ok-clause-cause : goal.returns-in-Ok-clause-cause
 returns-in-Ok-clause-cause g c =
-    then_rose c.put-in-Ok.result (g.O.Sink.faults c.args.out.now) (g.O.Sink.faults c.put-2.new.self) (g.O.Sink.faults c.put-in-Ok.new.self) c.in-Ok.ensures.kept c.put-in-Ok.ensures.cause
+    then_rose c.put-in-Ok.result (g.O.Sink.faults c.args.out.now) (g.O.Sink.faults c.put-2.new.self) (g.O.Sink.faults c.put-in-Ok.new.self)
+    c.in-Ok.ensures.kept c.put-in-Ok.ensures.cause
 
 pub returns-in-Err-clause-failed : goal.returns-in-Err-clause-failed
 returns-in-Err-clause-failed g c =
-    rw c.if-begun.false (front_of_both (g.O.Sink.taken c.args.out.now) (g.O.Sink.taken c.put-2.new.self) c.args.tag.now c.args.line.now c.in-Err.ensures.failed)
+    rw c.if-begun.false (front_of_both (g.O.Sink.taken c.args.out.now) (g.O.Sink.taken c.put-2.new.self) c.args.tag.now c.args.line.now
+    c.in-Err.ensures.failed)
 
 pub returns-in-Err-clause-cause : goal.returns-in-Err-clause-cause
 returns-in-Err-clause-cause g c = c.in-Err.ensures.cause

@@ -14,15 +14,28 @@ use Rattle.guest_sched.proofs.ToldPuts.{same_name, turn_failed, turn_all, unpaus
 use Rattle.guest_sched.proofs.turn.steps_on.Goals as goal
 
 -- where the sink has failed, the step reached isn't reported
-unpaused_leaves : {S : Type 0} (s : shadows.Ghosts S) (image : Image) (bound : ℕ) (old new : Scene S) (result : Result Pause Failed) (failed : Failed) → SliceLeaves s image bound old new result
+unpaused_leaves : {S : Type 0} (s : shadows.Ghosts S) (image : Image) (bound : ℕ) (old new : Scene S) (result : Result Pause Failed)
+    (failed : Failed) → SliceLeaves s image bound old new result
     → SliceLeaves s image bound old new (Err failed)
-unpaused_leaves s image bound old new result failed h = record { reached = tt; held = tt; ready = tt; able = tt; counted = h.counted; stands = h.stands; pool = h.pool; few = h.few; filled = h.filled; frames = h.frames }
+unpaused_leaves s image bound old new result failed h = record {
+  reached = tt;
+  held = tt;
+  ready = tt;
+  able = tt;
+  counted = h.counted;
+  stands = h.stands;
+  pool = h.pool;
+  few = h.few;
+  filled = h.filled;
+  frames = h.frames;
+}
 
 pub returns-then-has_failed-clause-leaves : goal.returns-then-has_failed-clause-leaves
 returns-then-has_failed-clause-leaves g c = unpaused_leaves _ _ _ _ _ _ _ c.slice-pause.ensures.leaves
 
 pub returns-then-has_failed-clause-own : goal.returns-then-has_failed-clause-own
-returns-then-has_failed-clause-own g c = record { memory = tt; owns = c.slice-pause.ensures.own.owns; filled = c.slice-pause.ensures.own.filled }
+returns-then-has_failed-clause-own g c =
+    record { memory = tt; owns = c.slice-pause.ensures.own.owns; filled = c.slice-pause.ensures.own.filled }
 
 pub returns-then-has_failed-clause-turn : goal.returns-then-has_failed-clause-turn
 returns-then-has_failed-clause-turn g c =
@@ -34,11 +47,14 @@ returns-then-has_failed-clause-turn g c =
     let given = lines_of (trace_of s.reports) in
     let tag = tag_of c.args.number in
     let was = g.O.Sink.taken c.args.out.now in
-    let name : t1.out.ghost_name ≡ t0.out.ghost_name = same_name t0.out.ghost_name t1.out.ghost_name tag t0.tag t1.tag t0.since.faults t1.since.faults was t0.since.taken t1.since.taken given t0.since.text t1.since.text e0.since.2 e0.tag e0.since.0 result s.text in
+    let name : t1.out.ghost_name ≡ t0.out.ghost_name = same_name t0.out.ghost_name t1.out.ghost_name tag t0.tag t1.tag t0.since.faults
+    t1.since.faults was t0.since.taken t1.since.taken given t0.since.text t1.since.text e0.since.2 e0.tag e0.since.0 result s.text in
     let same : c.out-1.given.0 ≡ t1.out.now = c.out-1.given.1 (sym e0.same_sink ∙ sym name) in
     let front : AppendsFront was (g.O.Sink.taken t1.out.now) (tagged tag given) =
-    turn_failed t0.out.ghost_name t1.out.ghost_name tag t0.tag t1.tag t0.since.faults t1.since.faults was t0.since.taken t1.since.taken given t0.since.text t1.since.text e0.since.2 e0.tag e0.since.0
-    t1.begun t1.failed (g.O.Sink.taken t1.out.now) (g.O.Sink.faults t1.out.now) result s.text (sym c.has_failed.ensures ∙ c.if-has_failed.true) t1.taken in
+    turn_failed t0.out.ghost_name t1.out.ghost_name tag t0.tag t1.tag t0.since.faults t1.since.faults was t0.since.taken t1.since.taken
+    given t0.since.text t1.since.text e0.since.2 e0.tag e0.since.0
+    t1.begun t1.failed (g.O.Sink.taken t1.out.now) (g.O.Sink.faults t1.out.now) result s.text
+    (sym c.has_failed.ensures ∙ c.if-has_failed.true) t1.taken in
     record {
       sets = s.sets;
       reports = s.reports;
@@ -61,11 +77,13 @@ returns-clause-turn g c =
     let given = lines_of (trace_of s.reports) in
     let tag = tag_of c.args.number in
     let was = g.O.Sink.taken c.args.out.now in
-    let name : t1.out.ghost_name ≡ t0.out.ghost_name = same_name t0.out.ghost_name t1.out.ghost_name tag t0.tag t1.tag t0.since.faults t1.since.faults was t0.since.taken t1.since.taken given t0.since.text t1.since.text e0.since.2 e0.tag e0.since.0 result s.text in
+    let name : t1.out.ghost_name ≡ t0.out.ghost_name = same_name t0.out.ghost_name t1.out.ghost_name tag t0.tag t1.tag t0.since.faults
+    t1.since.faults was t0.since.taken t1.since.taken given t0.since.text t1.since.text e0.since.2 e0.tag e0.since.0 result s.text in
     let same : c.out-1.given.0 ≡ t1.out.now = c.out-1.given.1 (sym e0.same_sink ∙ sym name) in
     let live : t1.failed ≡ _ = sym c.has_failed.ensures ∙ c.if-has_failed.false in
     let all : PutsAs (tagged tag given) was (g.O.Sink.taken t1.out.now) result =
-    turn_all t0.out.ghost_name t1.out.ghost_name tag t0.tag t1.tag t0.since.faults t1.since.faults was t0.since.taken t1.since.taken given t0.since.text t1.since.text e0.since.2 e0.tag e0.since.0
+    turn_all t0.out.ghost_name t1.out.ghost_name tag t0.tag t1.tag t0.since.faults t1.since.faults was t0.since.taken t1.since.taken given
+    t0.since.text t1.since.text e0.since.2 e0.tag e0.since.0
     t1.begun t1.failed (g.O.Sink.taken t1.out.now) (g.O.Sink.faults t1.out.now) result _ _ s.text live t1.taken
     c.slice-pause.ensures.faults.cause (no_faults t0.failed e0.failed) (no_faults t1.failed live) in
     record {

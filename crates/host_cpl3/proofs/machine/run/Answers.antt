@@ -11,14 +11,16 @@ pub returns-in-Ok-Entered-clause-runs : goal.returns-in-Ok-Entered-clause-runs
 returns-in-Ok-Entered-clause-runs c =
     let l = c.loop-done in
     let regs = c.host_step.new.regs in
-    l.invariant.run ∙ run_enters c.args.view.now c.args.k l._done (standing l.regs l.ram l.retired l.passed) (completion c.in-Ok-Entered.field-0 regs) regs c.host_step.new.ram c.loop-done-test.true
+    l.invariant.run ∙ run_enters c.args.view.now c.args.k l._done (standing l.regs l.ram l.retired l.passed)
+    (completion c.in-Ok-Entered.field-0 regs) regs c.host_step.new.ram c.loop-done-test.true
     c.in-Ok-Entered.ensures.gives (ap (λ (e : Ending). completion e regs) c.in-Ok-Entered.field-0-is)
 
 pub returns-in-Err-clause-runs : goal.returns-in-Err-clause-runs
 returns-in-Err-clause-runs c =
     let l = c.loop-done in
     let gives = c.in-Err.ensures.gives in
-    l.invariant.run ∙ run_exits c.args.view.now c.args.k l._done (standing l.regs l.ram l.retired l.passed) c.in-Err.exit c.host_step.new.ram c.loop-done-test.true gives.0 gives.2
+    l.invariant.run ∙ run_exits c.args.view.now c.args.k l._done (standing l.regs l.ram l.retired l.passed) c.in-Err.exit
+    c.host_step.new.ram c.loop-done-test.true gives.0 gives.2
     ∙ ap (λ (r : Regs). (c.in-Err.exit, standing r c.host_step.new.ram l.retired l.passed)) (sym gives.1)
 
 pub loop-done-init : goal.loop-done-init
@@ -38,9 +40,11 @@ loop-done-preserved c =
     let regs = c.host_step.new.regs in
     record {
       run =
-          l.invariant.run ∙ run_on c.args.view.now c.args.k l._done (standing l.regs l.ram l.retired l.passed) (completion c.in-Ok-Completed.field-0 regs) regs c.host_step.new.ram c.loop-done-test.true
+          l.invariant.run ∙ run_on c.args.view.now c.args.k l._done (standing l.regs l.ram l.retired l.passed)
+          (completion c.in-Ok-Completed.field-0 regs) regs c.host_step.new.ram c.loop-done-test.true
           c.in-Ok-Completed.ensures.gives (ap (λ (e : Ending). completion e regs) c.in-Ok-Completed.field-0-is)
-          ∙ ap (λ p. host_run c.args.view.now (c.args.k - (l._done + 1)) (standing regs c.host_step.new.ram (l.retired + 1) p)) (sym c.digest.ensures);
+          ∙ ap (λ p. host_run c.args.view.now (c.args.k - (l._done + 1)) (standing regs c.host_step.new.ram (l.retired + 1) p))
+          (sym c.digest.ensures);
       len = c.in-Ok-Completed.ensures.len ∙ l.invariant.len;
       count = omega (arith, l.invariant.count);
       kept = c.in-Ok-Completed.ensures.kept;

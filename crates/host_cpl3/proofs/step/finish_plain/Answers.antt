@@ -19,8 +19,10 @@ pub effect-requires-clause-ready : goal.effect-requires-clause-ready
 effect-requires-clause-ready c =
     let a = c.args in
     record {
-      read = first_read a.ram.now a.view.now.root a.read a.write (ranges_of a.insn.now a.regs.now).read c.requires.read c.requires.write c.requires.read_of;
-      modified = second_read a.ram.now a.view.now.root a.read a.write (ranges_of a.insn.now a.regs.now).write c.requires.read c.requires.write c.requires.write_of;
+      read = first_read a.ram.now a.view.now.root a.read a.write (ranges_of a.insn.now a.regs.now).read c.requires.read
+          c.requires.write c.requires.read_of;
+      modified = second_read a.ram.now a.view.now.root a.read a.write (ranges_of a.insn.now a.regs.now).write c.requires.read
+          c.requires.write c.requires.write_of;
     }
 
 pub stored-requires-clause-stores : goal.stored-requires-clause-stores
@@ -30,7 +32,8 @@ stored-requires-clause-stores c =
     let f = byte_at m v.root in
     let insn = c.args.insn.now in
     let came = same_effect (selectors_of v) insn c.args.len c.args.regs.now f c.requires.insensitive ∙ sym c.effect.ensures in
-    (finish_stores m v.root (selectors_of v) insn c.args.len c.args.regs.now f c.in-Done.after c.in-Done.stores c.args.write (sym (came ∙ c.in-Done.is)) c.requires.write c.requires.write_of).0
+    (finish_stores m v.root (selectors_of v) insn c.args.len c.args.regs.now f c.in-Done.after c.in-Done.stores c.args.write
+    (sym (came ∙ c.in-Done.is)) c.requires.write c.requires.write_of).0
 
 pub returns-in-Done-clause-gives : goal.returns-in-Done-clause-gives
 returns-in-Done-clause-gives c =
@@ -40,9 +43,11 @@ returns-in-Done-clause-gives c =
     let insn = c.args.insn.now in
     let came = same_effect (selectors_of v) insn c.args.len c.args.regs.now f c.requires.insensitive ∙ sym c.effect.ensures in
     let is = came ∙ c.in-Done.is in
-    let same = (finish_stores m v.root (selectors_of v) insn c.args.len c.args.regs.now f c.in-Done.after c.in-Done.stores c.args.write (sym is) c.requires.write c.requires.write_of).1 in
+    let same = (finish_stores m v.root (selectors_of v) insn c.args.len c.args.regs.now f c.in-Done.after c.in-Done.stores c.args.write
+    (sym is) c.requires.write c.requires.write_of).1 in
     ap (finished v insn.op m) is
-    ∙ ap (λ (n : List ℕ). Ok (ended v insn.op c.in-Done.after, n)) (sym (stores_same (placed c.args.write) (place m v.root) m c.in-Done.stores same) ∙ sym c.stored.ensures.memory)
+    ∙ ap (λ (n : List ℕ). Ok (ended v insn.op c.in-Done.after, n))
+    (sym (stores_same (placed c.args.write) (place m v.root) m c.in-Done.stores same) ∙ sym c.stored.ensures.memory)
     ∙ ap (λ (done : Completion). Ok (done, c.stored.new.ram)) (sym c.ended.ensures)
 
 pub returns-in-Raise-clause-gives : goal.returns-in-Raise-clause-gives

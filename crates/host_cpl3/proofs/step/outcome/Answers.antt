@@ -6,6 +6,8 @@ pub user_effect-requires-clause-ready : goal.user_effect-requires-clause-ready
 user_effect-requires-clause-ready c =
     let a = c.args in
     record {
-      read = first_read a.ram.now a.view.now.root a.read a.write (ranges_of a.insn.now a.regs.now).read c.requires.read c.requires.write c.requires.read_of;
-      modified = second_read a.ram.now a.view.now.root a.read a.write (ranges_of a.insn.now a.regs.now).write c.requires.read c.requires.write c.requires.write_of;
+      read = first_read a.ram.now a.view.now.root a.read a.write (ranges_of a.insn.now a.regs.now).read c.requires.read
+          c.requires.write c.requires.read_of;
+      modified = second_read a.ram.now a.view.now.root a.read a.write (ranges_of a.insn.now a.regs.now).write c.requires.read
+          c.requires.write c.requires.write_of;
     }

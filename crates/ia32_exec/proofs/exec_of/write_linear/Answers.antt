@@ -6,4 +6,8 @@ pub returns : goal.returns
 returns g c =
     let l = g.M.LinearMem in
     let h = linear l.byte l.same c.args.mem.now (list_of c.args.stores.now) c.write_all.new.memory c.write_all.ensures.written in
-    record { written = h.0; places = h.1; kept = kept_unless _ c.args.stores.now c.args.mem.now c.write_all.new.memory c.write_all.ensures.written }
+    record {
+      written = h.0;
+      places = h.1;
+      kept = kept_unless _ c.args.stores.now c.args.mem.now c.write_all.new.memory c.write_all.ensures.written;
+    }

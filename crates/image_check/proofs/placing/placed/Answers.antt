@@ -12,10 +12,13 @@ returns-clause-exact c =
     (rw (c.in_ok-test.ensures, c.in_ok-test-2.ensures, c.in_ok-test-3.ensures, c.in_ok-test-4.ensures) c.test-5.ensures)
 
 pub returns-clause-text : goal.returns-clause-text
-returns-clause-text c = on_ok_weaker c.test-5.result (λ (w : IsWithin (image_with c.args.image.now [])). w.text) (placed_within c.args.image.now c.test-5.result (returns-clause-exact c))
+returns-clause-text c = on_ok_weaker c.test-5.result (λ (w : IsWithin (image_with c.args.image.now [])). w.text)
+    (placed_within c.args.image.now c.test-5.result (returns-clause-exact c))
 
 pub returns-clause-init : goal.returns-clause-init
-returns-clause-init c = on_ok_weaker c.test-5.result (λ (w : IsWithin (image_with c.args.image.now [])). w.room) (placed_within c.args.image.now c.test-5.result (returns-clause-exact c))
+returns-clause-init c = on_ok_weaker c.test-5.result (λ (w : IsWithin (image_with c.args.image.now [])). w.room)
+    (placed_within c.args.image.now c.test-5.result (returns-clause-exact c))
 
 pub returns-clause-entry : goal.returns-clause-entry
-returns-clause-entry c = on_ok_weaker c.test-5.result (λ (w : IsWithin (image_with c.args.image.now [])). w.entry) (placed_within c.args.image.now c.test-5.result (returns-clause-exact c))
+returns-clause-entry c = on_ok_weaker c.test-5.result (λ (w : IsWithin (image_with c.args.image.now [])). w.entry)
+    (placed_within c.args.image.now c.test-5.result (returns-clause-exact c))

@@ -5,11 +5,14 @@ use Rattle.image_check.proofs.site.differ.Goals as goal
 pub returns-then-not-is_same : goal.returns-then-not-is_same
 returns-then-not-is_same c =
     ap (λ n. Some n) c.min.ensures
-    ∙ sym (differ-wrong c.args.a.now c.args.b.now c.loop-i.i no_site (omega arith) (omega arith) (sym c.is_same.ensures ∙ c.if-not-is_same.true))
+    ∙ sym (differ-wrong c.args.a.now c.args.b.now c.loop-i.i no_site (omega arith) (omega arith)
+    (sym c.is_same.ensures ∙ c.if-not-is_same.true))
     ∙ c.loop-i.invariant
 
 pub loop-i-preserved : goal.loop-i-preserved
-loop-i-preserved c = sym (differ-right_so_far c.args.a.now c.args.b.now c.loop-i.i no_site (omega arith) (omega arith) (sym c.is_same.ensures ∙ c.if-not-is_same.false)) ∙ c.loop-i.invariant
+loop-i-preserved c =
+    sym (differ-right_so_far c.args.a.now c.args.b.now c.loop-i.i no_site (omega arith) (omega arith)
+    (sym c.is_same.ensures ∙ c.if-not-is_same.false)) ∙ c.loop-i.invariant
 
 pub returns-then-both-a : goal.returns-then-both-a
 returns-then-both-a c =

@@ -6,7 +6,8 @@ use Rattle.image_check.proofs.site.find_sites.Goals as goal
 
 pub loop-piece-init : goal.loop-piece-init
 loop-piece-init c = record {
-  found = subst (λ (sites : List Site). Now sites 0 c.args.text.now 0) (sym c.new-sites.ensures.items) (now_first c.args.text.now c.requires.left);
+  found = subst (λ (sites : List Site). Now sites 0 c.args.text.now 0) (sym c.new-sites.ensures.items)
+      (now_first c.args.text.now c.requires.left);
   within = omega arith;
 }
 

@@ -25,7 +25,8 @@ loop-preserved c =
     let there = sym c.piece_there.ensures.exact ∙ c.in-Some.is in
     let nop = sym c.is_nop_role.ensures ∙ c.if-not-is_nop_role.false in
     record {
-      counted = λ ps left. counted_on c.args.count l.counter c.args.text.now l.at ps (l.invariant.counted ps left) c.loop-test.true p there nop;
+      counted =
+          λ ps left. counted_on c.args.count l.counter c.args.text.now l.at ps (l.invariant.counted ps left) c.loop-test.true p there nop;
       within = c.in-Some.ensures.room.1;
     }
 

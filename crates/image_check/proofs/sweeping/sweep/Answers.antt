@@ -9,7 +9,8 @@ use Rattle.image_check.proofs.sweeping.sweep.Goals as goal
 
 pub loop-at-init : goal.loop-at-init
 loop-at-init c =
-    let zeros : c.in_ok-starts.starts.items ≡ replicate (length c.args.text.now) false = c.in_ok-starts.ensures.items_if_clones_equal (λ y h. h) in
+    let zeros : c.in_ok-starts.starts.items ≡ replicate (length c.args.text.now) false =
+    c.in_ok-starts.ensures.items_if_clones_equal (λ y h. h) in
     record {
       went = went_first c.args.text.now c.in_ok-starts.starts.items zeros;
       len = omega (arith, c.in_ok-starts.ensures.len);

@@ -9,7 +9,8 @@ returns-then-leads_wrong c =
     let l = c.loop-piece in
     let there = sym c.piece_there.ensures.exact ∙ c.in-Some.is in
     let wrong = sym c.leads_wrong.ensures ∙ c.if-leads_wrong.true in
-    sought_wrong (λ (k : ℕ). slice_index_or c.args.entrances.now k false) c.args.text.now l.at l.invariant.sought c.in-Some.piece there wrong
+    sought_wrong (λ (k : ℕ). slice_index_or c.args.entrances.now k false) c.args.text.now l.at l.invariant.sought
+    c.in-Some.piece there wrong
 
 pub loop-piece-preserved : goal.loop-piece-preserved
 loop-piece-preserved c =

@@ -33,7 +33,8 @@ pub returns-clause-one_instruction : goal.returns-clause-one_instruction
 returns-clause-one_instruction c image h s t = one_there 0 image.text (swept_of image.text) (length image.text) [] (sweeps image h) s t
 
 pub returns-clause-site : goal.returns-clause-site
-returns-clause-site c image h at site = (site_listed at image.sites site, λ is. listed_site 0 at image.sites (length image.text) (apart image h) site is.0 is.1 is.2)
+returns-clause-site c image h at site =
+    (site_listed at image.sites site, λ is. listed_site 0 at image.sites (length image.text) (apart image h) site is.0 is.1 is.2)
 
 pub returns-clause-no_site : goal.returns-clause-no_site
 returns-clause-no_site c image h at = (none_around at image.sites, around_none at image.sites)

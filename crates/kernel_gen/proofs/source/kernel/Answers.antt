@@ -15,7 +15,8 @@ loop-preserved c =
     let e : c.next-x.result ≡ next (x_of c.args.number c.loop.counter) = c.next-x.ensures ∙ ap next c.loop.invariant.x in
     record {
       x = e ∙ sym (x_more c.args.number c.loop.counter);
-      text = text_more c.args.number c.loop.counter c.loop.text.items c.add_lines.new.text.items c.loop.invariant.text (c.in_ok-add_lines.ensures ∙ ap (λ x. c.loop.text.items ++ text_of (lines_of x)) e);
+      text = text_more c.args.number c.loop.counter c.loop.text.items c.add_lines.new.text.items c.loop.invariant.text
+          (c.in_ok-add_lines.ensures ∙ ap (λ x. c.loop.text.items ++ text_of (lines_of x)) e);
     }
 
 pub returns : goal.returns

@@ -5,6 +5,7 @@ use Rattle.look_words.proofs.lists.all_addresses.Given as goal
 
 abbrev pub invariant-loop-word : goal.invariant-loop-word
 invariant-loop-word l = record {
-  whole : option_map (λ ns. l.addresses.items ++ ns) (all_addresses (map string_bytes (drop l.word-index l.words))) ≡ all_addresses (map string_bytes l.words);
+  whole : option_map (λ ns. l.addresses.items ++ ns) (all_addresses (map string_bytes (drop l.word-index l.words))) ≡ all_addresses
+      (map string_bytes l.words);
   count : length l.addresses.items ≡ l.word-index;
 }

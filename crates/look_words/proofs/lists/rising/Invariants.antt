@@ -5,7 +5,8 @@ use Rattle.look_words.proofs.lists.rising.Given as goal
 
 abbrev pub invariant-loop-word : goal.invariant-loop-word
 invariant-loop-word l = record {
-  whole : option_map (λ ns. l.steps.items ++ ns) (rising_from l.least (map string_bytes (drop l.word-index l.words))) ≡ rising_from 0 (map string_bytes l.words);
+  whole : option_map (λ ns. l.steps.items ++ ns) (rising_from l.least (map string_bytes (drop l.word-index l.words))) ≡ rising_from 0
+      (map string_bytes l.words);
   count : length l.steps.items ≡ l.word-index;
   limits : (i : ℕ) → get_or l.steps.items i 0 ≤ 2 ^ 40;
   least : l.least ≤ 2 ^ 40 + 1;

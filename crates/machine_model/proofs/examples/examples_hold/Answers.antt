@@ -10,7 +10,8 @@ use Rattle.ia32_rows.specs.Fields.{addressing_at, immediate_at}
 use Rattle.machine_model.proofs.examples.examples_hold.Goals as goal
 
 pub returns : goal.returns
-unfolding is_start tables_read word32 part starts_of sweep sweep_from decoded answer_from rows parts_at lead_at coded_at addressing_at immediate_at
+unfolding is_start tables_read word32 part starts_of sweep sweep_from decoded answer_from rows parts_at lead_at coded_at
+    addressing_at immediate_at
 returns c = record {
   first_count = refl;
   first_digest = refl;

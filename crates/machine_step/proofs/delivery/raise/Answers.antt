@@ -13,7 +13,8 @@ use Rattle.machine_step.proofs.delivery.raise.Goals as goal
 pub returns-in-Ok-clause-step : goal.returns-in-Ok-clause-step
 returns-in-Ok-clause-step g c = λ m b k.
     let s = g.M.GuestMem.space c.deliver.new.mem in
-    subst (λ (o : Outcome NotDelivered Cpu). ComesTo (after_delivery m [] b b.board o) b (answer_of c.entered.result c.entered.new.worked) b.board s)
+    subst (λ (o : Outcome NotDelivered Cpu). ComesTo (after_delivery m [] b b.board o) b
+    (answer_of c.entered.result c.entered.new.worked) b.board s)
     (sym (rw (c.in-Ok.is, c.code_of-code.ensures) at c.deliver.ensures.gives)) (c.entered.ensures.step m b b.board s k)
 
 pub returns-in-Ok-clause-uses : goal.returns-in-Ok-clause-uses
@@ -27,7 +28,8 @@ returns-in-Ok-clause-ends g c =
     let cpu = c.args.worked.now.cpu in
     let after = c.deliver.new.cpu in
     if_ok_as (EndsWith None after) (EndsWith None cpu) (answer_of c.entered.result c.entered.new.worked)
-    (λ w k. ends_on None cpu after w (entered_keeps cpu after _ _ _ _ _ (rw c.in-Ok.is at c.deliver.ensures.gives)) k) c.entered.ensures.ends
+    (λ w k. ends_on None cpu after w (entered_keeps cpu after _ _ _ _ _ (rw c.in-Ok.is at c.deliver.ensures.gives)) k)
+    c.entered.ensures.ends
 
 pub returns-in-Ok-clause-leaves : goal.returns-in-Ok-clause-leaves
 returns-in-Ok-clause-leaves g c = sym (ap left_by (rw (c.in-Ok.is, c.code_of-code.ensures) at c.deliver.ensures.gives))

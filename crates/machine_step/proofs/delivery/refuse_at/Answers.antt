@@ -35,11 +35,13 @@ returns-in-Fault-clause-goes_on g c = λ s h.
 pub returns-in-Raise-clause-roots : goal.returns-in-Raise-clause-roots
 returns-in-Raise-clause-roots g c =
     let cpu = c.args.worked.now.cpu in
-    if_ok_as (EndsWith None cpu) (RootsAs cpu) (answer_of c.raise.result c.raise.new.worked) (λ w k. kept_roots None cpu w refl k) c.raise.ensures.ends
+    if_ok_as (EndsWith None cpu) (RootsAs cpu) (answer_of c.raise.result c.raise.new.worked) (λ w k. kept_roots None cpu w refl k)
+    c.raise.ensures.ends
 
 pub returns-in-Fault-clause-roots : goal.returns-in-Fault-clause-roots
 returns-in-Fault-clause-roots g c =
     let cpu = c.args.worked.now.cpu in
     let faulted = record cpu { cr2 = c.in-Fault.at } in
     if_ok_as (EndsWith None faulted) (RootsAs cpu) (answer_of c.raise-in-Fault.result c.raise-in-Fault.new.worked)
-    (λ w k. kept_roots None cpu w refl (ends_on None cpu faulted w (record { cr0 = refl; cr3 = refl; cr4 = refl }) k)) c.raise-in-Fault.ensures.ends
+    (λ w k. kept_roots None cpu w refl (ends_on None cpu faulted w (record { cr0 = refl; cr3 = refl; cr4 = refl }) k))
+    c.raise-in-Fault.ensures.ends

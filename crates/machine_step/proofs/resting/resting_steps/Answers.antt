@@ -3,10 +3,12 @@ use Rattle.machine_step.proofs.Sleeping.{rests_at}
 use Rattle.machine_step.proofs.resting.resting_steps.Goals as goal
 
 pub returns-then-not-is_resting-clause-furthest : goal.returns-then-not-is_resting-clause-furthest
-returns-then-not-is_resting-clause-furthest c = λ halted held none _. absurd (let q : false ≡ true = sym c.if-not-is_resting.true ∙ c.is_resting.ensures.waits halted held none in cc)
+returns-then-not-is_resting-clause-furthest c =
+    λ halted held none _. absurd (let q : false ≡ true = sym c.if-not-is_resting.true ∙ c.is_resting.ensures.waits halted held none in cc)
 
 pub returns-then-not-is_resting-clause-past_edges : goal.returns-then-not-is_resting-clause-past_edges
-returns-then-not-is_resting-clause-past_edges c = λ halted held none _ _. absurd (let q : false ≡ true = sym c.if-not-is_resting.true ∙ c.is_resting.ensures.waits halted held none in cc)
+returns-then-not-is_resting-clause-past_edges c =
+    λ halted held none _ _. absurd (let q : false ≡ true = sym c.if-not-is_resting.true ∙ c.is_resting.ensures.waits halted held none in cc)
 
 pub returns-clause-sleeps : goal.returns-clause-sleeps
 returns-clause-sleeps c = λ some.

@@ -7,8 +7,12 @@ use Rattle.machine_step.proofs.worked.put_some.Goals as goal
 
 pub returns-clause-ok : goal.returns-clause-ok
 returns-clause-ok g c =
-    subst (λ (l : List Item). OnOk c.put_step.result (Appends (g.O.Sink.taken c.args.out.now) (g.O.Sink.taken c.put_step.new.out) (lines_of l))) c.items_of.ensures.items c.put_step.ensures.ok
+    subst (λ (l : List Item). OnOk c.put_step.result
+    (Appends (g.O.Sink.taken c.args.out.now) (g.O.Sink.taken c.put_step.new.out) (lines_of l))) c.items_of.ensures.items
+    c.put_step.ensures.ok
 
 pub returns-clause-failed : goal.returns-clause-failed
 returns-clause-failed g c =
-    subst (λ (l : List Item). OnErr c.put_step.result (AppendsFront (g.O.Sink.taken c.args.out.now) (g.O.Sink.taken c.put_step.new.out) (lines_of l))) c.items_of.ensures.items c.put_step.ensures.failed
+    subst (λ (l : List Item). OnErr c.put_step.result
+    (AppendsFront (g.O.Sink.taken c.args.out.now) (g.O.Sink.taken c.put_step.new.out) (lines_of l))) c.items_of.ensures.items
+    c.put_step.ensures.failed

@@ -6,4 +6,5 @@ use Rattle.machine_text.proofs.devices.add_devices.Goals as goal
 pub returns : goal.returns
 unfolding devices_text
 returns c =
-    subst (λ (b : List ℕ). OnOk c.add_board_bytes.result (c.add_board_bytes.new.text.items ≡ c.args.text.now.items ++ board_bytes_text b)) c.save-bytes.ensures.bytes c.add_board_bytes.ensures
+    subst (λ (b : List ℕ). OnOk c.add_board_bytes.result (c.add_board_bytes.new.text.items ≡ c.args.text.now.items ++ board_bytes_text b))
+    c.save-bytes.ensures.bytes c.add_board_bytes.ensures

@@ -16,7 +16,8 @@ loop-byte-preserved c =
     let blank = simp length-append at (ap length c.add.ensures) in
     record {
       text =
-          three_pieces c.args.line.now.items (bytes_text (take i xs)) (codes " ") (hex2 (get_or xs i 0)) _ _ _ c.loop-byte.invariant.text c.add.ensures c.two_digits.ensures.text
+          three_pieces c.args.line.now.items (bytes_text (take i xs)) (codes " ") (hex2 (get_or xs i 0)) _ _ _ c.loop-byte.invariant.text
+          c.add.ensures c.two_digits.ensures.text
           ∙ ap (λ (text : List ℕ). c.args.line.now.items ++ text) (sym (more_bytes xs i c.loop-byte-test.true));
       len = omega (arith, blank, c.two_digits.ensures.len, c.loop-byte.invariant.len);
     }

@@ -6,4 +6,5 @@ use Rattle.part_vectors.proofs.roots.note.Goals as goal
 pub returns-clause-owns : goal.returns-clause-owns
 returns-clause-owns g c =
     let b = c.args.bench in let p = b.pool in
-    Owns-moves p p b.ram c.note.new.ram (frames_of (pairs_of b.roots) b.ram) (frames_of (pairs_of c.note.new.self) c.note.new.ram) c.requires.owns (c.note.ensures.moves p c.requires.owns)
+    Owns-moves p p b.ram c.note.new.ram (frames_of (pairs_of b.roots) b.ram) (frames_of (pairs_of c.note.new.self) c.note.new.ram)
+    c.requires.owns (c.note.ensures.moves p c.requires.owns)

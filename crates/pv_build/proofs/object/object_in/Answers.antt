@@ -14,5 +14,6 @@ returns-clause-halted g c =
     (λ line ok. (
       fault,
       (c.in_ok-file.file.items, c.in_ok-file.ensures.loaded, subst (λ (b : List ℕ). object_in b ≡ Err fault) c.deref.ensures.value fails),
-      line_is _ line _ c.object_place_line.ensures ok ∙ ap (λ (n : ℕ). object_place_line n c.args.index c.in-Err-At.at) c.number_of_form-number.ensures,
+      line_is _ line _ c.object_place_line.ensures ok ∙ ap (λ (n : ℕ). object_place_line n c.args.index c.in-Err-At.at)
+          c.number_of_form-number.ensures,
     )) c.refused.ensures)

@@ -7,8 +7,14 @@ pub loop-b-preserved : goal.loop-b-preserved
 loop-b-preserved c =
     let on = count_on c.loop-b.count c.loop-b.b-index c.loop-b.begins _ c.args.text.now _ c.loop-b-test.true refl c.loop-b.invariant.read in
     elim c.if-begins.branch [
-      | then-begins w ↦ record { read = omega (arith, w.count-is, ap as_number w.if-begins.true, on); small = omega (arith, w.count-is, c.loop-b.invariant.small) }
-      | else-begins w ↦ record { read = omega (arith, w.count-is, ap as_number w.if-begins.false, on); small = omega (arith, w.count-is, c.loop-b.invariant.small) }
+      | then-begins w ↦ record {
+        read = omega (arith, w.count-is, ap as_number w.if-begins.true, on);
+        small = omega (arith, w.count-is, c.loop-b.invariant.small);
+      }
+      | else-begins w ↦ record {
+        read = omega (arith, w.count-is, ap as_number w.if-begins.false, on);
+        small = omega (arith, w.count-is, c.loop-b.invariant.small);
+      }
     ]
 
 pub returns : goal.returns

@@ -20,7 +20,8 @@ loop-at-preserved c =
         g.more,
         subst (λ (k : ℕ). Reached image.text (k + h.len) (n.0 ++ swept h ∷ []) g.more) place g.on,
         one_named image (swept h) c.loop-at.labels.items c.mark.new.flags.items n.0 n.3
-            (subst (λ (o : Option ℕ). (i : ℕ) → i < length c.loop-at.labels.items → slice_index_or c.mark.new.flags.items i false ≡ (slice_index_or c.loop-at.labels.items i false || is_at i o)) c.named_by.ensures c.mark.ensures.flags)
+            (subst (λ (o : Option ℕ). (i : ℕ) → i < length c.loop-at.labels.items → slice_index_or c.mark.new.flags.items i false
+            ≡ (slice_index_or c.loop-at.labels.items i false || is_at i o)) c.named_by.ensures c.mark.ensures.flags)
             c.mark.ensures.len,
       );
     }
@@ -28,4 +29,5 @@ loop-at-preserved c =
 pub returns-clause-labels : goal.returns-clause-labels
 returns-clause-labels c =
     let n = c.loop-at.invariant.named in
-    all_named c.args.image.now c.loop-at.labels.items c.loop-at.at n.0 n.1 n.2 (omega (arith, c.loop-at-test.false, ap length c.text-len.ensures.text)) n.3
+    all_named c.args.image.now c.loop-at.labels.items c.loop-at.at n.0 n.1 n.2
+    (omega (arith, c.loop-at-test.false, ap length c.text-len.ensures.text)) n.3

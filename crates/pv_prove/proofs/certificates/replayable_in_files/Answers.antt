@@ -22,11 +22,14 @@ returns-in_err-choices-clause-halted g c =
     let events = c.in_ok-runnable.runnable.script.list in
     let p = err_from_is_err_and c.from_residual-in_err-choices.result c.from_residual-in_err-choices.ensures.1 in
     rw (p.1, p.2)
-    (halts_since _ _ (g.F.Files.sure c.args.files.now) (g.F.Files.sure c.runnable_in_files.new.files) (g.F.Files.load_faults c.args.files.now) (g.F.Files.load_faults c.runnable_in_files.new.files) _
+    (halts_since _ _ (g.F.Files.sure c.args.files.now) (g.F.Files.sure c.runnable_in_files.new.files)
+    (g.F.Files.load_faults c.args.files.now) (g.F.Files.load_faults c.runnable_in_files.new.files) _
     c.in_err-choices.field-0.0 first.same_sure first.later
     (halts_as _ _ _ _ _ _ _ c.in_err-choices.field-0.0
-    (λ line none. NoChoices image events none.0 ok.image ok.script (subst (λ (f : Option FileMap). HasNoChoices f c.args.certificate.now none.0) first.held none.1) none.2)
-    (λ held. subst (λ (f : Option FileMap). IsHeld f c.args.certificate.now) (sym first.held) ((held.1 image events ok.image ok.script).0)) c.in_err-choices.ensures.halted))
+    (λ line none. NoChoices image events none.0 ok.image ok.script
+    (subst (λ (f : Option FileMap). HasNoChoices f c.args.certificate.now none.0) first.held none.1) none.2)
+    (λ held. subst (λ (f : Option FileMap). IsHeld f c.args.certificate.now) (sym first.held) ((held.1 image events ok.image ok.script).0))
+    c.in_err-choices.ensures.halted))
 
 -- the text's file, where the others were read
 pub returns-in_err-text-clause-halted : goal.returns-in_err-text-clause-halted
@@ -41,10 +44,12 @@ returns-in_err-text-clause-halted g c =
     let same = second.held ∙ first.held in
     let p = err_from_is_err_and c.from_residual-in_err-text.result c.from_residual-in_err-text.ensures.1 in
     rw (p.1, p.2)
-    (halts_since _ _ (g.F.Files.sure c.args.files.now) (g.F.Files.sure c.choices_in_file.new.files) (g.F.Files.load_faults c.args.files.now) (g.F.Files.load_faults c.choices_in_file.new.files) _
+    (halts_since _ _ (g.F.Files.sure c.args.files.now) (g.F.Files.sure c.choices_in_file.new.files) (g.F.Files.load_faults c.args.files.now)
+    (g.F.Files.load_faults c.choices_in_file.new.files) _
     c.in_err-text.field-0.0 (second.same_sure ∙ first.same_sure) (omega (arith, first.later, second.later))
     (halts_as _ _ _ _ _ _ _ c.in_err-text.field-0.0 (λ line none. absurd none)
-    (λ held. subst (λ (f : Option FileMap). IsHeld f c.args.text.now) (sym same) ((held.1 image events ok.image ok.script).1 list has)) c.in_err-text.ensures.halted))
+    (λ held. subst (λ (f : Option FileMap). IsHeld f c.args.text.now) (sym same) ((held.1 image events ok.image ok.script).1 list has))
+    c.in_err-text.ensures.halted))
 
 pub returns-in_err-runnable-clause-read : goal.returns-in_err-runnable-clause-read
 returns-in_err-runnable-clause-read g c = read_for _ _ _ _ _ c.in_err-runnable.ensures.read (λ held. held.0)
@@ -53,8 +58,10 @@ pub returns-in_err-choices-clause-read : goal.returns-in_err-choices-clause-read
 returns-in_err-choices-clause-read g c =
     let first = c.in_ok-runnable.ensures.read in
     let ok = c.in_ok-runnable.ensures in
-    read_on _ (FindsReplay (g.F.Files.held c.args.files.now) c.args.image.now c.args.script.now c.args.certificate.now c.args.text.now) _ _ _ _ (read_for _ _ _ _ _ first (λ held. held.0)) c.in_err-choices.ensures.read
-    (λ held. subst (λ (f : Option FileMap). IsHeld f c.args.certificate.now) (sym first.held) ((held.1 c.in_ok-runnable.runnable.image c.in_ok-runnable.runnable.script.list ok.image ok.script).0))
+    read_on _ (FindsReplay (g.F.Files.held c.args.files.now) c.args.image.now c.args.script.now c.args.certificate.now c.args.text.now) _ _
+    _ _ (read_for _ _ _ _ _ first (λ held. held.0)) c.in_err-choices.ensures.read
+    (λ held. subst (λ (f : Option FileMap). IsHeld f c.args.certificate.now) (sym first.held)
+    ((held.1 c.in_ok-runnable.runnable.image c.in_ok-runnable.runnable.script.list ok.image ok.script).0))
 
 pub returns-in_err-text-clause-read : goal.returns-in_err-text-clause-read
 returns-in_err-text-clause-read g c =
@@ -63,12 +70,15 @@ returns-in_err-text-clause-read g c =
     let ok = c.in_ok-runnable.ensures in
     let image = c.in_ok-runnable.runnable.image in
     let events = c.in_ok-runnable.runnable.script.list in
-    let has = subst (λ (f : Option FileMap). HasChoices f c.args.certificate.now c.in_ok-choices.choices.list) first.held c.in_ok-choices.ensures.choices in
+    let has = subst (λ (f : Option FileMap). HasChoices f c.args.certificate.now c.in_ok-choices.choices.list) first.held
+    c.in_ok-choices.ensures.choices in
     let all = FindsReplay (g.F.Files.held c.args.files.now) c.args.image.now c.args.script.now c.args.certificate.now c.args.text.now in
     let two = read_on _ all _ _ _ _ (read_for _ _ _ _ _ first (λ held. held.0)) second
-    (λ held. subst (λ (f : Option FileMap). IsHeld f c.args.certificate.now) (sym first.held) ((held.1 image events ok.image ok.script).0)) in
+    (λ held. subst (λ (f : Option FileMap). IsHeld f c.args.certificate.now) (sym first.held)
+    ((held.1 image events ok.image ok.script).0)) in
     read_on _ all _ _ _ _ two c.in_err-text.ensures.read
-    (λ held. subst (λ (f : Option FileMap). IsHeld f c.args.text.now) (sym (second.held ∙ first.held)) ((held.1 image events ok.image ok.script).1 c.in_ok-choices.choices.list has))
+    (λ held. subst (λ (f : Option FileMap). IsHeld f c.args.text.now) (sym (second.held ∙ first.held))
+    ((held.1 image events ok.image ok.script).1 c.in_ok-choices.choices.list has))
 
 pub returns-clause-read : goal.returns-clause-read
 returns-clause-read g c =
@@ -77,20 +87,25 @@ returns-clause-read g c =
     let ok = c.in_ok-runnable.ensures in
     let image = c.in_ok-runnable.runnable.image in
     let events = c.in_ok-runnable.runnable.script.list in
-    let has = subst (λ (f : Option FileMap). HasChoices f c.args.certificate.now c.in_ok-choices.choices.list) first.held c.in_ok-choices.ensures.choices in
+    let has = subst (λ (f : Option FileMap). HasChoices f c.args.certificate.now c.in_ok-choices.choices.list) first.held
+    c.in_ok-choices.ensures.choices in
     let all = FindsReplay (g.F.Files.held c.args.files.now) c.args.image.now c.args.script.now c.args.certificate.now c.args.text.now in
     let two = read_on _ all _ _ _ _ (read_for _ _ _ _ _ first (λ held. held.0)) second
-    (λ held. subst (λ (f : Option FileMap). IsHeld f c.args.certificate.now) (sym first.held) ((held.1 image events ok.image ok.script).0)) in
+    (λ held. subst (λ (f : Option FileMap). IsHeld f c.args.certificate.now) (sym first.held)
+    ((held.1 image events ok.image ok.script).0)) in
     read_on _ all _ _ _ _ two c.in_ok-text.ensures.read
-    (λ held. subst (λ (f : Option FileMap). IsHeld f c.args.text.now) (sym (second.held ∙ first.held)) ((held.1 image events ok.image ok.script).1 c.in_ok-choices.choices.list has))
+    (λ held. subst (λ (f : Option FileMap). IsHeld f c.args.text.now) (sym (second.held ∙ first.held))
+    ((held.1 image events ok.image ok.script).1 c.in_ok-choices.choices.list has))
 
 pub returns-clause-choices : goal.returns-clause-choices
 returns-clause-choices g c =
-    subst (λ (f : Option FileMap). HasChoices f c.args.certificate.now c.in_ok-choices.choices.list) c.in_ok-runnable.ensures.read.held c.in_ok-choices.ensures.choices
+    subst (λ (f : Option FileMap). HasChoices f c.args.certificate.now c.in_ok-choices.choices.list) c.in_ok-runnable.ensures.read.held
+    c.in_ok-choices.ensures.choices
 
 pub returns-clause-text : goal.returns-clause-text
 returns-clause-text g c =
-    subst (λ (f : Option FileMap). Holds f c.args.text.now c.in_ok-text.text.items) (c.in_ok-choices.ensures.read.held ∙ c.in_ok-runnable.ensures.read.held) c.in_ok-text.ensures.loaded
+    subst (λ (f : Option FileMap). Holds f c.args.text.now c.in_ok-text.text.items)
+    (c.in_ok-choices.ensures.read.held ∙ c.in_ok-runnable.ensures.read.held) c.in_ok-text.ensures.loaded
 
 pub returns-in_err-choices-clause-kept : goal.returns-in_err-choices-clause-kept
 returns-in_err-choices-clause-kept g c =
@@ -100,4 +115,5 @@ returns-in_err-choices-clause-kept g c =
 pub returns-in_err-text-clause-kept : goal.returns-in_err-text-clause-kept
 returns-in_err-text-clause-kept g c =
     let p = err_from_is_err_and c.from_residual-in_err-text.result c.from_residual-in_err-text.ensures.1 in
-    rw (p.1, p.2) (none_since _ _ _ c.in_err-text.field-0.0 (c.in_ok-choices.ensures.kept ∙ c.in_ok-runnable.ensures.kept) c.in_err-text.ensures.kept)
+    rw (p.1, p.2) (none_since _ _ _ c.in_err-text.field-0.0 (c.in_ok-choices.ensures.kept ∙ c.in_ok-runnable.ensures.kept)
+    c.in_err-text.ensures.kept)

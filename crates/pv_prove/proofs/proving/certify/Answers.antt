@@ -19,10 +19,12 @@ returns-in-Ok-clause-certified g c = λ completed memory told kept.
     let line = c.in-Ok.ensures.line ∙ ap (λ (n : ℕ). certificate_line n) (ap length said.1 ∙ length-map told choice_of) in
     Delivered (few told said.0)
     (subst (λ (l : List ℕ). Delivers c.args.name.now (choices_bytes (choices_of told)) l c.args.meant o c.deliver.result) line
-    (subst (λ (b : List ℕ). Delivers c.args.name.now b c.in-Ok.made.line c.args.meant o c.deliver.result) file (c.deliver.ensures.delivers completed memory)))
+    (subst (λ (b : List ℕ). Delivers c.args.name.now b c.in-Ok.made.line c.args.meant o c.deliver.result) file
+    (c.deliver.ensures.delivers completed memory)))
 
 pub returns-in-Err-clause-certified : goal.returns-in-Err-clause-certified
-returns-in-Err-clause-certified g c = λ completed memory told kept. Delivered (few told (c.in-Some.ensures.told told kept).0) (NoMemory refl refl refl)
+returns-in-Err-clause-certified g c =
+    λ completed memory told kept. Delivered (few told (c.in-Some.ensures.told told kept).0) (NoMemory refl refl refl)
 
 pub returns-in-None-clause-ends : goal.returns-in-None-clause-ends
 returns-in-None-clause-ends g c =

@@ -21,20 +21,24 @@ returns-in_err-state-clause-halted g c =
     let first = has.read in
     let p = err_from_is_err_and c.from_residual-in_err-state.result c.from_residual-in_err-state.ensures.1 in
     rw (p.1, p.2)
-    (halts_since _ _ (g.F.Files.sure c.args.files.now) (g.F.Files.sure c.runnable_in_files.new.files) (g.F.Files.load_faults c.args.files.now) (g.F.Files.load_faults c.runnable_in_files.new.files) _
+    (halts_since _ _ (g.F.Files.sure c.args.files.now) (g.F.Files.sure c.runnable_in_files.new.files)
+    (g.F.Files.load_faults c.args.files.now) (g.F.Files.load_faults c.runnable_in_files.new.files) _
     c.in_err-state.field-0.0 first.same_sure first.later
     (halts_as _ _ _ _ _ _ _ c.in_err-state.field-0.0
     (λ line none. NoState found.image found.script.list none.0 has.image has.script
     (subst (λ (f : Option FileMap). HasNoState f c.args.name.now none.0) first.held none.1) none.2)
-    (λ held. subst (λ (f : Option FileMap). IsHeld f c.args.name.now) (sym first.held) (held.1 found.image found.script.list has.image has.script)) c.in_err-state.ensures.halted))
+    (λ held. subst (λ (f : Option FileMap). IsHeld f c.args.name.now) (sym first.held)
+    (held.1 found.image found.script.list has.image has.script)) c.in_err-state.ensures.halted))
 
 pub returns-in_err-state-clause-read : goal.returns-in_err-state-clause-read
 returns-in_err-state-clause-read g c =
     let found = c.in_ok-found.found in
     let has = c.in_ok-found.ensures in
     let first = has.read in
-    read_on _ (FindsState (g.F.Files.held c.args.files.now) c.args.image.now c.args.script.now c.args.name.now) _ _ _ _ (read_for _ _ _ _ _ first (λ held. held.0)) c.in_err-state.ensures.read
-    (λ held. subst (λ (f : Option FileMap). IsHeld f c.args.name.now) (sym first.held) (held.1 found.image found.script.list has.image has.script))
+    read_on _ (FindsState (g.F.Files.held c.args.files.now) c.args.image.now c.args.script.now c.args.name.now) _ _ _ _
+    (read_for _ _ _ _ _ first (λ held. held.0)) c.in_err-state.ensures.read
+    (λ held. subst (λ (f : Option FileMap). IsHeld f c.args.name.now) (sym first.held)
+    (held.1 found.image found.script.list has.image has.script))
 
 pub returns-in_err-test_fit-clause-halted : goal.returns-in_err-test_fit-clause-halted
 returns-in_err-test_fit-clause-halted g c =

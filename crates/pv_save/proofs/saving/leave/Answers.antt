@@ -16,7 +16,8 @@ returns-in-Ok-At-clause-leaves g c = λ completed memory.
     let name = c.args.name.now in
     let o = beside g.F.Files g.S.Sink (c.args.files.now, c.deliver.new.files) (c.args.out.now, c.deliver.new.out) completed memory in
     let is : c.args.rested ≡ Ok (rest.At state) = cc (c.in-Ok-At.is, c.in-Ok-At.field-0-is) in
-    let bytes = subst (λ (b : List ℕ). Delivers name b made.line status.Done o c.deliver.result) c.in-Ok.ensures.file (c.deliver.ensures.delivers completed memory) in
+    let bytes = subst (λ (b : List ℕ). Delivers name b made.line status.Done o c.deliver.result) c.in-Ok.ensures.file
+    (c.deliver.ensures.delivers completed memory) in
     let done = subst (λ (l : List ℕ). Delivers name (checkpoint_bytes state) l status.Done o c.deliver.result) c.in-Ok.ensures.line bytes in
     let back = subst (λ (b : List ℕ). checkpoint_in b ≡ Ok state) c.in-Ok.ensures.file c.in-Ok.ensures.read_back in
     subst (λ (r : Result Rested RunFault). LeavesAs r name o c.deliver.result) (sym is) (inl (done, back))

@@ -27,13 +27,16 @@ returns-in-Bare-clause-answers g c =
     let a = around g.H.Host g.S.Sink c.args.host.now c.args.host.now c.args.out.now c.save_bare_from.new.out in
     let memory = g.H.Host.bytes c.args.host.now in
     subst (λ (on : RunMode). AnswersState on c.args.n image events s a memory c.save_bare_from.result) (sym c.in-Bare.is)
-    (rests_counted (bare image events (frames_of s)) c.args.n (rested_from s) uncounted (HostStepped mode.Bare image events (frames_of s) a memory) a.taken a.taken_after a.faults a.faults_after c.save_bare_from.result (λ reports. refl)
+    (rests_counted (bare image events (frames_of s)) c.args.n (rested_from s) uncounted
+    (HostStepped mode.Bare image events (frames_of s) a memory) a.taken a.taken_after a.faults a.faults_after
+    c.save_bare_from.result (λ reports. refl)
     (c.save_bare_from.ensures.rests image))
 
 pub returns-clause-answers : goal.returns-clause-answers
 returns-clause-answers g c =
     let a = around g.H.Host g.S.Sink c.args.host.now c.save_wedge_from.new.host c.args.out.now c.save_wedge_from.new.out in
-    subst (λ (on : RunMode). AnswersState on c.args.n c.args.found.image c.args.found.script.list c.args.found.state a (g.H.Host.bytes c.save_wedge_from.new.host) c.save_wedge_from.result)
+    subst (λ (on : RunMode). AnswersState on c.args.n c.args.found.image c.args.found.script.list c.args.found.state a
+    (g.H.Host.bytes c.save_wedge_from.new.host) c.save_wedge_from.result)
     (sym c.in-Wedge.is) c.save_wedge_from.ensures.rests
 
 pub returns-in-Bare-clause-form : goal.returns-in-Bare-clause-form

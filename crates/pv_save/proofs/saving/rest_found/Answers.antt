@@ -25,10 +25,12 @@ returns-in-Bare-clause-answers g c =
     let a = around g.H.Host g.S.Sink c.args.host.now c.args.host.now c.args.out.now c.save_bare.new.out in
     let memory = g.H.Host.bytes c.args.host.now in
     subst (λ (on : RunMode). AnswersStart on frames c.args.n image events a memory c.save_bare.result) (sym c.in-Bare.is)
-    (starts_counted (bare image events frames) c.args.n uncounted (HostStepped mode.Bare image events frames a memory) a.taken a.taken_after a.faults a.faults_after c.save_bare.result (λ reports. refl) c.save_bare.ensures.rests)
+    (starts_counted (bare image events frames) c.args.n uncounted (HostStepped mode.Bare image events frames a memory) a.taken a.taken_after
+    a.faults a.faults_after c.save_bare.result (λ reports. refl) c.save_bare.ensures.rests)
 
 pub returns-in-Wedge-clause-answers : goal.returns-in-Wedge-clause-answers
 returns-in-Wedge-clause-answers g c =
     let a = around g.H.Host g.S.Sink c.args.host.now c.save_wedge.new.host c.args.out.now c.save_wedge.new.out in
-    subst (λ (on : RunMode). AnswersStart on c.args.frames c.args.n c.args.found.now.image c.args.found.now.script.list a (g.H.Host.bytes c.save_wedge.new.host) c.save_wedge.result)
+    subst (λ (on : RunMode). AnswersStart on c.args.frames c.args.n c.args.found.now.image c.args.found.now.script.list a
+    (g.H.Host.bytes c.save_wedge.new.host) c.save_wedge.result)
     (sym c.in-Wedge.is) c.save_wedge.ensures.rests

@@ -16,41 +16,53 @@ use Rattle.pv_save.proofs.saving.save_from.Goals as goal
 
 pub returns-in-Err-clause-meaning : goal.returns-in-Err-clause-meaning
 returns-in-Err-clause-meaning g c =
-    let task = save_from_task c.args.mode c.args.words.image.now c.args.words.script.now c.args.words.file.now c.args.words.n c.args.new.now in
+    let task =
+    save_from_task c.args.mode c.args.words.image.now c.args.words.script.now c.args.words.file.now c.args.words.n c.args.new.now in
     let words = c.args.words in
     let on = c.args.mode in
     let held = g.F.Files.held c.args.files.now in
     halts _ _ task _ c.end.result c.in-Err.halt
-    (λ line none. no_rest (SavesOn on words.n c.args.new.now) on c.is_wedge-wedge.result words.n held words.image.now words.script.now words.file.now line c.is_wedge-wedge.ensures none)
+    (λ line none. no_rest (SavesOn on words.n c.args.new.now) on c.is_wedge-wedge.result words.n held words.image.now words.script.now
+    words.file.now line c.is_wedge-wedge.ensures none)
     (λ finds. finds) c.in-Err.ensures.read.held
     refl c.in-Err.ensures.halted c.end.ensures
 
 pub returns-in-Ok-clause-meaning : goal.returns-in-Ok-clause-meaning
 returns-in-Ok-clause-meaning g c =
-    let task = save_from_task c.args.mode c.args.words.image.now c.args.words.script.now c.args.words.file.now c.args.words.n c.args.new.now in
+    let task =
+    save_from_task c.args.mode c.args.words.image.now c.args.words.script.now c.args.words.file.now c.args.words.n c.args.new.now in
     let words = c.args.words in
     let on = c.args.mode in
     let found = c.in-Ok.found in
     let read = c.in-Ok.ensures.read in
     let between = c.resumable_in_files.new.files in
     let host2 = c.rest_again-rested.new.host in
-    let o = outside g.F.Files g.S.Sink g.H.Host (c.args.files.now, c.leave.new.files) (c.args.out.now, c.leave.new.out) (c.args.host.now, host2) in
+    let o = outside g.F.Files g.S.Sink g.H.Host (c.args.files.now, c.leave.new.files) (c.args.out.now, c.leave.new.out)
+    (c.args.host.now, host2) in
     let fit = subst (λ (b : Bool). fits_of found.state found.image b words.n ≡ Ok tt) c.is_wedge-wedge.ensures c.in-Ok.ensures.fits in
-    rested_means task o on (setting_on on found.image found.script.list (frames_of found.state)) words.n (rested_from found.state) c.args.new.now
-    (g.S.Sink.taken c.rest_again-rested.new.out) (g.S.Sink.faults c.rest_again-rested.new.out) (g.F.Files.held between) (g.F.Files.sure between) (g.F.Files.load_faults between) (g.F.Files.store_faults between)
+    rested_means task o on (setting_on on found.image found.script.list (frames_of found.state)) words.n
+    (rested_from found.state) c.args.new.now
+    (g.S.Sink.taken c.rest_again-rested.new.out) (g.S.Sink.faults c.rest_again-rested.new.out) (g.F.Files.held between)
+    (g.F.Files.sure between) (g.F.Files.load_faults between) (g.F.Files.store_faults between)
     (counts_of g.H.Host host2) c.rest_again-rested.result c.leave.result
-    (saves_state on words.image.now words.script.now words.file.now words.n c.args.new.now o found.image found.script.list found.state c.in-Ok.ensures.image c.in-Ok.ensures.script c.in-Ok.ensures.state fit)
-    read.held read.same_sure read.same_stores c.rest_again-rested.ensures.answers (c.leave.ensures.leaves (counts_of g.H.Host host2) (g.H.Host.bytes host2))
+    (saves_state on words.image.now words.script.now words.file.now words.n c.args.new.now o found.image found.script.list found.state
+    c.in-Ok.ensures.image c.in-Ok.ensures.script c.in-Ok.ensures.state fit)
+    read.held read.same_sure read.same_stores c.rest_again-rested.ensures.answers
+    (c.leave.ensures.leaves (counts_of g.H.Host host2) (g.H.Host.bytes host2))
 
 pub returns-in-Err-clause-counts : goal.returns-in-Err-clause-counts
 returns-in-Err-clause-counts g c =
-    let task = save_from_task c.args.mode c.args.words.image.now c.args.words.script.now c.args.words.file.now c.args.words.n c.args.new.now in
-    counts_host g.F.Files g.S.Sink g.H.Host task c.args.files.now c.resumable_in_files.new.files c.args.out.now c.end.new.out c.args.host.now c.args.host.now c.in-Err.ensures.read
+    let task =
+    save_from_task c.args.mode c.args.words.image.now c.args.words.script.now c.args.words.file.now c.args.words.n c.args.new.now in
+    counts_host g.F.Files g.S.Sink g.H.Host task c.args.files.now c.resumable_in_files.new.files c.args.out.now c.end.new.out
+    c.args.host.now c.args.host.now c.in-Err.ensures.read
 
 pub returns-in-Ok-clause-counts : goal.returns-in-Ok-clause-counts
 returns-in-Ok-clause-counts g c =
-    let task = save_from_task c.args.mode c.args.words.image.now c.args.words.script.now c.args.words.file.now c.args.words.n c.args.new.now in
-    counts_behind g.F.Files g.S.Sink g.H.Host task c.args.files.now c.resumable_in_files.new.files c.leave.new.files c.args.out.now c.leave.new.out c.args.host.now c.rest_again-rested.new.host
+    let task =
+    save_from_task c.args.mode c.args.words.image.now c.args.words.script.now c.args.words.file.now c.args.words.n c.args.new.now in
+    counts_behind g.F.Files g.S.Sink g.H.Host task c.args.files.now c.resumable_in_files.new.files c.leave.new.files c.args.out.now
+    c.leave.new.out c.args.host.now c.rest_again-rested.new.host
     (some_is_none c.args.new.now) c.in-Ok.ensures.read c.leave.ensures.stored
 
 pub returns-in-Err-clause-leaves : goal.returns-in-Err-clause-leaves
@@ -59,19 +71,26 @@ returns-in-Err-clause-leaves g c = λ done. absurd (not_ended c.in-Err.halt _ _ 
 pub returns-in-Ok-clause-leaves : goal.returns-in-Ok-clause-leaves
 returns-in-Ok-clause-leaves g c = λ done.
     let none : Counts = record { retired = 0; passed = 0 } in
-    let o = beside g.F.Files g.S.Sink (c.resumable_in_files.new.files, c.leave.new.files) (c.rest_again-rested.new.out, c.leave.new.out) none [] in
+    let o = beside g.F.Files g.S.Sink (c.resumable_in_files.new.files, c.leave.new.files)
+    (c.rest_again-rested.new.out, c.leave.new.out) none [] in
     subst (λ (f : Option FileMap). LeavesState c.args.new.now f (g.F.Files.held c.leave.new.files)) c.in-Ok.ensures.read.held
-    (left_state c.rest_again-rested.result c.args.new.now o c.leave.result (rests_stop _ _ _ _ _ _ _ _ c.rest_again-rested.result c.rest_again-rested.ensures.answers) (c.leave.ensures.leaves none []) done)
+    (left_state c.rest_again-rested.result c.args.new.now o c.leave.result
+    (rests_stop _ _ _ _ _ _ _ _ c.rest_again-rested.result c.rest_again-rested.ensures.answers) (c.leave.ensures.leaves none []) done)
 
 pub returns-in-Err-clause-ends : goal.returns-in-Err-clause-ends
 returns-in-Err-clause-ends g c =
-    ends_halted g.F.Files g.S.Sink c.args.files.now c.resumable_in_files.new.files c.args.out.now c.end.new.out c.in-Err.halt (g.S.Sink.taken c.args.out.now) (g.S.Sink.taken c.end.new.out)
+    ends_halted g.F.Files g.S.Sink c.args.files.now c.resumable_in_files.new.files c.args.out.now c.end.new.out c.in-Err.halt
+    (g.S.Sink.taken c.args.out.now) (g.S.Sink.taken c.end.new.out)
     c.end.result c.in-Err.ensures.kept c.in-Err.ensures.read.same_stores c.end.ensures
 
 pub returns-in-Ok-clause-ends : goal.returns-in-Ok-clause-ends
 returns-in-Ok-clause-ends g c =
     let none : Counts = record { retired = 0; passed = 0 } in
-    let o = beside g.F.Files g.S.Sink (c.resumable_in_files.new.files, c.leave.new.files) (c.rest_again-rested.new.out, c.leave.new.out) none [] in
-    ends_behind g.F.Files g.S.Sink c.args.files.now c.resumable_in_files.new.files c.leave.new.files c.args.out.now c.rest_again-rested.new.out c.leave.new.out c.leave.result c.in-Ok.ensures.kept c.in-Ok.ensures.read.same_stores
-    (left_kept (g.S.Sink.faults c.args.out.now) (g.S.Sink.faults c.rest_again-rested.new.out) c.rest_again-rested.result c.args.new.now o c.leave.result (rests_kept _ _ _ _ _ _ _ _ c.rest_again-rested.result c.rest_again-rested.ensures.answers) (c.leave.ensures.leaves none []))
+    let o = beside g.F.Files g.S.Sink (c.resumable_in_files.new.files, c.leave.new.files)
+    (c.rest_again-rested.new.out, c.leave.new.out) none [] in
+    ends_behind g.F.Files g.S.Sink c.args.files.now c.resumable_in_files.new.files c.leave.new.files c.args.out.now
+    c.rest_again-rested.new.out c.leave.new.out c.leave.result c.in-Ok.ensures.kept c.in-Ok.ensures.read.same_stores
+    (left_kept (g.S.Sink.faults c.args.out.now) (g.S.Sink.faults c.rest_again-rested.new.out) c.rest_again-rested.result c.args.new.now o
+    c.leave.result (rests_kept _ _ _ _ _ _ _ _ c.rest_again-rested.result c.rest_again-rested.ensures.answers)
+    (c.leave.ensures.leaves none []))
     c.leave.ensures.ends

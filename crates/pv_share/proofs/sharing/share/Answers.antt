@@ -34,7 +34,8 @@ pub returns-in-Ok-clause-meaning : goal.returns-in-Ok-clause-meaning
 returns-in-Ok-clause-meaning g c =
     let words = c.args.words in
     let found = c.in-Ok.found in
-    share_means words.schedule.now words.frames (names_in_pairs (map string_bytes words.kernels.now)) _ c.tell_shared.result found.kernels.items found.schedule.list _ _ _ c.run_shared-ran.result
+    share_means words.schedule.now words.frames (names_in_pairs (map string_bytes words.kernels.now)) _ c.tell_shared.result
+    found.kernels.items found.schedule.list _ _ _ c.run_shared-ran.result
     c.in-Ok.ensures.shared c.in-Ok.ensures.read.held c.run_shared-ran.ensures.shared c.tell_shared.ensures
 
 pub returns-in-Err-clause-counts : goal.returns-in-Err-clause-counts
@@ -42,25 +43,33 @@ returns-in-Err-clause-counts g c =
     let task = share_task c.args.words.schedule.now c.args.words.frames (names_in_pairs (map string_bytes c.args.words.kernels.now)) in
     let words = c.args.words in
     let held = g.F.Files.held c.args.files.now in
-    counts_host g.F.Files g.S.Sink g.H.Host task c.args.files.now c.shared_in_files.new.files c.args.out.now c.end.new.out c.args.host.now c.args.host.now
-    (read_for g.F.Files (task.finds held) (FindsShared held words.schedule.now (names_in_pairs (map string_bytes words.kernels.now))) c.args.files.now c.shared_in_files.new.files c.in-Err.ensures.read (λ found. found))
+    counts_host g.F.Files g.S.Sink g.H.Host task c.args.files.now c.shared_in_files.new.files c.args.out.now c.end.new.out
+    c.args.host.now c.args.host.now
+    (read_for g.F.Files (task.finds held) (FindsShared held words.schedule.now (names_in_pairs (map string_bytes words.kernels.now)))
+    c.args.files.now c.shared_in_files.new.files c.in-Err.ensures.read (λ found. found))
 
 pub returns-in-Ok-clause-counts : goal.returns-in-Ok-clause-counts
 returns-in-Ok-clause-counts g c =
     let task = share_task c.args.words.schedule.now c.args.words.frames (names_in_pairs (map string_bytes c.args.words.kernels.now)) in
     let words = c.args.words in
     let held = g.F.Files.held c.args.files.now in
-    counts_host g.F.Files g.S.Sink g.H.Host task c.args.files.now c.shared_in_files.new.files c.args.out.now c.tell_shared.new.out c.args.host.now c.run_shared-ran.new.host
-    (read_for g.F.Files (task.finds held) (FindsShared held words.schedule.now (names_in_pairs (map string_bytes words.kernels.now))) c.args.files.now c.shared_in_files.new.files c.in-Ok.ensures.read (λ found. found))
+    counts_host g.F.Files g.S.Sink g.H.Host task c.args.files.now c.shared_in_files.new.files c.args.out.now c.tell_shared.new.out
+    c.args.host.now c.run_shared-ran.new.host
+    (read_for g.F.Files (task.finds held) (FindsShared held words.schedule.now (names_in_pairs (map string_bytes words.kernels.now)))
+    c.args.files.now c.shared_in_files.new.files c.in-Ok.ensures.read (λ found. found))
 
 pub returns-in-Err-clause-ends : goal.returns-in-Err-clause-ends
 returns-in-Err-clause-ends g c =
-    ends_halted g.F.Files g.S.Sink c.args.files.now c.shared_in_files.new.files c.args.out.now c.end.new.out c.in-Err.halt (g.S.Sink.taken c.args.out.now) (g.S.Sink.taken c.end.new.out)
+    ends_halted g.F.Files g.S.Sink c.args.files.now c.shared_in_files.new.files c.args.out.now c.end.new.out c.in-Err.halt
+    (g.S.Sink.taken c.args.out.now) (g.S.Sink.taken c.end.new.out)
     c.end.result c.in-Err.ensures.kept c.in-Err.ensures.read.same_stores c.end.ensures
 
 pub returns-in-Ok-clause-ends : goal.returns-in-Ok-clause-ends
 returns-in-Ok-clause-ends g c =
     let found = c.in-Ok.found in
-    let o = outside g.F.Files g.S.Sink g.H.Host (c.args.files.now, c.shared_in_files.new.files) (c.args.out.now, c.tell_shared.new.out) (c.args.host.now, c.run_shared-ran.new.host) in
-    ends_same g.F.Files g.S.Sink c.args.files.now c.shared_in_files.new.files c.args.out.now c.tell_shared.new.out c.tell_shared.result c.in-Ok.ensures.kept c.in-Ok.ensures.read.same_stores
-    (share_puts c.args.words.frames o c.tell_shared.result found.kernels.items found.schedule.list _ _ _ c.run_shared-ran.result c.run_shared-ran.ensures.shared c.tell_shared.ensures)
+    let o = outside g.F.Files g.S.Sink g.H.Host (c.args.files.now, c.shared_in_files.new.files) (c.args.out.now, c.tell_shared.new.out)
+    (c.args.host.now, c.run_shared-ran.new.host) in
+    ends_same g.F.Files g.S.Sink c.args.files.now c.shared_in_files.new.files c.args.out.now c.tell_shared.new.out c.tell_shared.result
+    c.in-Ok.ensures.kept c.in-Ok.ensures.read.same_stores
+    (share_puts c.args.words.frames o c.tell_shared.result found.kernels.items found.schedule.list _ _ _ c.run_shared-ran.result
+    c.run_shared-ran.ensures.shared c.tell_shared.ensures)

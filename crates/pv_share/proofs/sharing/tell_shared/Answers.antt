@@ -9,5 +9,6 @@ use Rattle.pv_share.proofs.sharing.tell_shared.Goals as goal
 
 pub returns-in-Err : goal.returns-in-Err
 returns-in-Err g c =
-    subst (λ (r : Result (Vec Ended Global) SharedFault). SharedToldAs r (g.S.Sink.taken c.args.out.now) (g.S.Sink.taken c.tell_run.new.out) (g.S.Sink.faults c.args.out.now) (g.S.Sink.faults c.tell_run.new.out) c.tell_run.result) (sym c.in-Err.is)
+    subst (λ (r : Result (Vec Ended Global) SharedFault). SharedToldAs r (g.S.Sink.taken c.args.out.now) (g.S.Sink.taken c.tell_run.new.out)
+    (g.S.Sink.faults c.args.out.now) (g.S.Sink.faults c.tell_run.new.out) c.tell_run.result) (sym c.in-Err.is)
     (told_fault c.in-Err.fault _ _ _ _ _ c.run_fault.result c.run_fault.ensures c.tell_run.ensures)

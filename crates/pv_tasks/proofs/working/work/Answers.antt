@@ -4,7 +4,8 @@ use Rattle.pv_tasks.proofs.working.work.Goals as goal
 
 pub returns-in-Err : goal.returns-in-Err
 returns-in-Err g c =
-    work_ends c.args.number _ c.in-Err.halt _ _ _ _ _ _ _ c.end.result c.in-Err.ensures.refused (λ line told. (refuses_kernel c.args.number line told, refl)) c.end.ensures
+    work_ends c.args.number _ c.in-Err.halt _ _ _ _ _ _ _ c.end.result c.in-Err.ensures.refused
+    (λ line told. (refuses_kernel c.args.number line told, refl)) c.end.ensures
 
 pub returns-in-Err-both : goal.returns-in-Err-both
 returns-in-Err-both g c =
@@ -13,4 +14,5 @@ returns-in-Err-both g c =
 
 pub returns : goal.returns
 returns g c =
-    work_tells c.args.number _ c.in-Ok-both.texts.first.items c.in-Ok-both.texts.second.items c.in-Ok-both.texts.fills _ _ _ _ _ _ _ c.tell_both.result c.in-Ok.ensures.image c.in-Ok-both.ensures.texts c.tell_both.ensures
+    work_tells c.args.number _ c.in-Ok-both.texts.first.items c.in-Ok-both.texts.second.items c.in-Ok-both.texts.fills _ _ _ _ _ _ _
+    c.tell_both.result c.in-Ok.ensures.image c.in-Ok-both.ensures.texts c.tell_both.ensures

@@ -17,6 +17,18 @@ six (x ∷ y ∷ z ∷ v ∷ w ∷ o ∷ i ∷ ws) a b c d e f least most p q r 
 pub returns-in-len6-clause-form : goal.returns-in-len6-clause-form
 unfolding after_save
 returns-in-len6-clause-form c =
-    let words = six c.args.words.now c.mode-item.result c.image-item.result c.script-item.result c.frames-item.result c.n-item.result c.file-item.result c.in-len6.len_at_least c.in-len6.len_below
+    let words = six c.args.words.now c.mode-item.result c.image-item.result c.script-item.result c.frames-item.result c.n-item.result
+    c.file-item.result c.in-len6.len_at_least c.in-len6.len_below
     c.mode-item.is c.image-item.is c.script-item.is c.frames-item.is c.n-item.is c.file-item.is in
-    rw (words, c.save_form.ensures.form, c.machine.ensures, c.run_words-run.ensures.form, c.as_str.ensures.value, c.as_str-in-len6.ensures.value, c.as_str-in-len6-2.ensures.value, c.as_str-in-len6-3.ensures.value, c.as_str-in-len6-4.ensures.value, c.as_str-in-len6-5.ensures.value) refl
+    rw (
+      words,
+      c.save_form.ensures.form,
+      c.machine.ensures,
+      c.run_words-run.ensures.form,
+      c.as_str.ensures.value,
+      c.as_str-in-len6.ensures.value,
+      c.as_str-in-len6-2.ensures.value,
+      c.as_str-in-len6-3.ensures.value,
+      c.as_str-in-len6-4.ensures.value,
+      c.as_str-in-len6-5.ensures.value,
+    ) refl

@@ -6,4 +6,5 @@ use Rattle.shadow_cache.proofs.call_lists.apply.Goals as goal
 
 pub returns-else-free-lt2-clause-law : goal.returns-else-free-lt2-clause-law
 returns-else-free-lt2-clause-law c = λ done value calls a.
-    subst (λ (x : RootsCall). Agree value (calls ++ x ∷ []) (pairs_of c.switch.new.self) c.switch.new.ram) (sym c.in-Switch.is) (c.switch.ensures.told value calls a)
+    subst (λ (x : RootsCall). Agree value (calls ++ x ∷ []) (pairs_of c.switch.new.self) c.switch.new.ram) (sym c.in-Switch.is)
+    (c.switch.ensures.told value calls a)

@@ -23,15 +23,18 @@ none = Shared (Fill Kernel (record { page = 0; frame = 0; user = false; write = 
 pub apply-requires-clause-owns : goal.apply-requires-clause-owns
 apply-requires-clause-owns c =
     let l = c.loop-call in
-    Owns-moves c.args.pool.now l.pool c.args.ram.now l.ram (frames_of (pairs_of c.args.roots.now) c.args.ram.now) (frames_of (pairs_of l.roots) l.ram) c.requires.owns l.invariant.moves
+    Owns-moves c.args.pool.now l.pool c.args.ram.now l.ram (frames_of (pairs_of c.args.roots.now) c.args.ram.now)
+    (frames_of (pairs_of l.roots) l.ram) c.requires.owns l.invariant.moves
 
 pub apply-requires-clause-fit : goal.apply-requires-clause-fit
 apply-requires-clause-fit c = fit-at c.args.calls.now c.loop-call.call-index none c.requires.fit c.loop-call-test.true
 
-moved : (c : After-apply) → Moves c.args.pool.now c.apply.new.pool c.args.ram.now c.apply.new.ram (frames_of (pairs_of c.args.roots.now) c.args.ram.now) (frames_of (pairs_of c.apply.new.roots) c.apply.new.ram)
+moved : (c : After-apply) → Moves c.args.pool.now c.apply.new.pool c.args.ram.now c.apply.new.ram
+    (frames_of (pairs_of c.args.roots.now) c.args.ram.now) (frames_of (pairs_of c.apply.new.roots) c.apply.new.ram)
 moved c =
     let l = c.loop-call in
-    Moves-trans c.args.pool.now l.pool c.apply.new.pool c.args.ram.now l.ram c.apply.new.ram (frames_of (pairs_of c.args.roots.now) c.args.ram.now) (frames_of (pairs_of l.roots) l.ram)
+    Moves-trans c.args.pool.now l.pool c.apply.new.pool c.args.ram.now l.ram c.apply.new.ram
+    (frames_of (pairs_of c.args.roots.now) c.args.ram.now) (frames_of (pairs_of l.roots) l.ram)
     (frames_of (pairs_of c.apply.new.roots) c.apply.new.ram) l.invariant.moves c.apply.ensures.moves
 
 pub loop-call-preserved : goal.loop-call-preserved
@@ -42,7 +45,8 @@ loop-call-preserved c =
       stands = c.apply.ensures.stands;
       moves = moved c.before;
       law = λ value a.
-          subst (λ (xs : List RootsCall). Agree value xs (pairs_of c.apply.new.roots) c.apply.new.ram) (sym (take_more cs l.call-index none c.loop-call-test.true))
+          subst (λ (xs : List RootsCall). Agree value xs (pairs_of c.apply.new.roots) c.apply.new.ram)
+          (sym (take_more cs l.call-index none c.loop-call-test.true))
           (c.apply.ensures.law c.if-not-apply.false value (take l.call-index cs) (l.invariant.law value a));
     }
 

@@ -11,16 +11,19 @@ use Rattle.shadow_cache.proofs.call_lists.replay.Goals.{After-follow-count}
 pub returns-clause-owns : goal.returns-clause-owns
 returns-clause-owns c =
     let r = c.in_ok-roots.roots in
-    Owns-moves c.new.new.pool c.follow-count.new.pool c.new.new.ram c.follow-count.new.ram (frames_of (pairs_of r) c.new.new.ram) (frames_of (pairs_of c.follow-count.new.roots) c.follow-count.new.ram) c.in_ok-roots.ensures.owns c.follow-count.ensures.moves
+    Owns-moves c.new.new.pool c.follow-count.new.pool c.new.new.ram c.follow-count.new.ram (frames_of (pairs_of r) c.new.new.ram)
+    (frames_of (pairs_of c.follow-count.new.roots) c.follow-count.new.ram) c.in_ok-roots.ensures.owns c.follow-count.ensures.moves
 
 pub returns-clause-moves : goal.returns-clause-moves
 returns-clause-moves c =
     let r = c.in_ok-roots.roots in
-    Moves-trans c.args.pool.now c.new.new.pool c.follow-count.new.pool c.args.ram.now c.new.new.ram c.follow-count.new.ram [] (frames_of (pairs_of r) c.new.new.ram) (frames_of (pairs_of c.follow-count.new.roots) c.follow-count.new.ram)
+    Moves-trans c.args.pool.now c.new.new.pool c.follow-count.new.pool c.args.ram.now c.new.new.ram c.follow-count.new.ram []
+    (frames_of (pairs_of r) c.new.new.ram) (frames_of (pairs_of c.follow-count.new.roots) c.follow-count.new.ram)
     c.in_ok-roots.ensures.moves c.follow-count.ensures.moves
 
 -- the law, over what `new` gave
-after : (c : After-follow-count) → Agree c.args.cr3 (take c.follow-count.result c.args.calls.now) (pairs_of c.follow-count.new.roots) c.follow-count.new.ram
+after : (c : After-follow-count) → Agree c.args.cr3 (take c.follow-count.result c.args.calls.now) (pairs_of c.follow-count.new.roots)
+    c.follow-count.new.ram
 after c = c.follow-count.ensures.law c.args.cr3 c.in_ok-roots.ensures.told
 
 pub returns-clause-pairs : goal.returns-clause-pairs

@@ -12,7 +12,8 @@ loop-left-init c =
     let ps = c.args.pairs.now in let m = c.args.ram.now in
     record {
       few = omega arith;
-      pruned = sym (pruned-all (λ p. not (reads p c.args.frame)) ps) ∙ ap (pruned (λ p. not (reads p c.args.frame)) ps) (sym c.len-left.ensures);
+      pruned =
+          sym (pruned-all (λ p. not (reads p c.args.frame)) ps) ∙ ap (pruned (λ p. not (reads p c.args.frame)) ps) (sym c.len-left.ensures);
       fewer = omega arith;
       kept = kept-refl ps m c.requires.shadows;
       moves = Moves-refl c.args.pool.now m (frames_of ps m) c.requires.owns.stands;
@@ -34,7 +35,8 @@ loop-left-preserved c =
     let here = sym (ap (λ (xs : List Pair). slice_get xs i) q) ∙ c.at.ensures in
     record {
       few = omega arith;
-      pruned = q ∙ pruned-stays (λ p. not (reads p c.args.frame)) ps i c.at.result.now (omega arith) here (ap not (sym c.reads.ensures ∙ c.if-reads.false));
+      pruned = q ∙ pruned-stays (λ p. not (reads p c.args.frame)) ps i c.at.result.now (omega arith) here
+          (ap not (sym c.reads.ensures ∙ c.if-reads.false));
       fewer = l.invariant.fewer;
       kept = l.invariant.kept;
       moves = l.invariant.moves;
@@ -46,7 +48,8 @@ leave-requires-clause-shadows c = kept-shadows c.loop-left.pairs c.args.ram.now 
 pub leave-requires-clause-owns : goal.leave-requires-clause-owns
 leave-requires-clause-owns c =
     let l = c.loop-left in
-    Owns-moves c.args.pool.now l.pool c.args.ram.now l.ram (frames_of c.args.pairs.now c.args.ram.now) (frames_of l.pairs l.ram) c.requires.owns l.invariant.moves
+    Owns-moves c.args.pool.now l.pool c.args.ram.now l.ram (frames_of c.args.pairs.now c.args.ram.now) (frames_of l.pairs l.ram)
+    c.requires.owns l.invariant.moves
 
 pub loop-left-preserved-then-reads : goal.loop-left-preserved-then-reads
 loop-left-preserved-then-reads c =
@@ -60,13 +63,16 @@ loop-left-preserved-then-reads c =
       few = omega arith;
       pruned =
           rest ∙ ap (λ (xs : List Pair). remove xs i) q
-          ∙ pruned-goes (λ p. not (reads p c.args.frame)) ps i c.at.result.now (omega arith) here (ap not (sym c.reads.ensures ∙ c.if-reads.true));
+          ∙ pruned-goes (λ p. not (reads p c.args.frame)) ps i c.at.result.now (omega arith) here
+          (ap not (sym c.reads.ensures ∙ c.if-reads.true));
       fewer = (let x = l.invariant.fewer in let y = c.leave.ensures.fewer in omega (arith, x, y));
       kept =
           kept-trans c.leave.new.pairs m l.ram n
           (subst (λ (xs : List Pair). AreKept xs m l.ram) (sym rest) (kept-remove l.pairs i m l.ram l.invariant.kept)) c.leave.ensures.kept;
-      moves = Moves-trans c.args.pool.now l.pool c.leave.new.pool m l.ram n (frames_of ps m) (frames_of l.pairs l.ram) (frames_of c.leave.new.pairs n) l.invariant.moves c.leave.ensures.moves;
+      moves = Moves-trans c.args.pool.now l.pool c.leave.new.pool m l.ram n (frames_of ps m) (frames_of l.pairs l.ram)
+          (frames_of c.leave.new.pairs n) l.invariant.moves c.leave.ensures.moves;
     }
 
 pub returns-clause-rest : goal.returns-clause-rest
-returns-clause-rest c = let e : c.loop-left.left ≡ 0 = omega arith in c.loop-left.invariant.pruned ∙ ap (pruned (λ p. not (reads p c.args.frame)) c.args.pairs.now) e
+returns-clause-rest c = let e : c.loop-left.left ≡ 0 =
+    omega arith in c.loop-left.invariant.pruned ∙ ap (pruned (λ p. not (reads p c.args.frame)) c.args.pairs.now) e

@@ -13,5 +13,6 @@ loop-i-preserved-then-are_none c =
     record {
       behind = omega (arith, behind, further);
       within = omega (arith, within);
-      none = still-pairs c.args.ram.now c.args.table c.args.frame c.args.from c.loop-i.i c.next_pair-i.result c.if-table-eq0.false even (c.are_none.ensures.none.0 c.if-are_none.true) next.none l.none;
+      none = still-pairs c.args.ram.now c.args.table c.args.frame c.args.from c.loop-i.i c.next_pair-i.result c.if-table-eq0.false even
+          (c.are_none.ensures.none.0 c.if-are_none.true) next.none l.none;
     }

@@ -21,16 +21,19 @@ none = Fill Kernel (record { page = 0; frame = 0; user = false; write = false; d
 pub apply-requires-clause-owns : goal.apply-requires-clause-owns
 apply-requires-clause-owns g c =
     let l = c.loop-call in
-    Owns-moves c.args.pool.now l.pool c.args.ram.now l.ram (g.S.Shadows.frames c.args.shadows.now c.args.ram.now) (g.S.Shadows.frames l.shadows l.ram) c.requires.owns l.invariant.moves
+    Owns-moves c.args.pool.now l.pool c.args.ram.now l.ram (g.S.Shadows.frames c.args.shadows.now c.args.ram.now)
+    (g.S.Shadows.frames l.shadows l.ram) c.requires.owns l.invariant.moves
 
 pub apply-requires-clause-fit : goal.apply-requires-clause-fit
 apply-requires-clause-fit g c = fit-at c.args.calls.now c.loop-call.call-index none c.requires.fit c.loop-call-test.true
 
-moved : (g : Over) (c : After-apply g) → Moves c.args.pool.now c.apply.new.pool c.args.ram.now c.apply.new.ram (g.S.Shadows.frames c.args.shadows.now c.args.ram.now) (g.S.Shadows.frames c.apply.new.shadows c.apply.new.ram)
+moved : (g : Over) (c : After-apply g) → Moves c.args.pool.now c.apply.new.pool c.args.ram.now c.apply.new.ram
+    (g.S.Shadows.frames c.args.shadows.now c.args.ram.now) (g.S.Shadows.frames c.apply.new.shadows c.apply.new.ram)
 moved g c =
     let l = c.loop-call in
     let f = g.S.Shadows.frames in
-    Moves-trans c.args.pool.now l.pool c.apply.new.pool c.args.ram.now l.ram c.apply.new.ram (f c.args.shadows.now c.args.ram.now) (f l.shadows l.ram) (f c.apply.new.shadows c.apply.new.ram) l.invariant.moves c.apply.ensures.moves
+    Moves-trans c.args.pool.now l.pool c.apply.new.pool c.args.ram.now l.ram c.apply.new.ram (f c.args.shadows.now c.args.ram.now)
+    (f l.shadows l.ram) (f c.apply.new.shadows c.apply.new.ram) l.invariant.moves c.apply.ensures.moves
 
 pub loop-call-preserved : goal.loop-call-preserved
 loop-call-preserved g c =
@@ -50,10 +53,13 @@ loop-call-preserved g c =
       stands = e.stands;
       moves = moved g c.before;
       left = omega (arith, count, before, now);
-      sight = e.sight done ∙ ap (after_one call) l.invariant.sight ∙ sym (after_calls-take cs l.call-index none c.loop-call-test.true (g.S.Shadows.sight c.args.shadows.now c.args.ram.now));
+      sight = e.sight done ∙ ap (after_one call) l.invariant.sight
+          ∙ sym (after_calls-take cs l.call-index none c.loop-call-test.true (g.S.Shadows.sight c.args.shadows.now c.args.ram.now));
       within = λ page h.
-          subst (IsWithin (g.S.Shadows.slots shadows ram page)) (sym (after-take cs l.call-index none page (old page) c.loop-call-test.true))
-          (within-trans _ _ _ (call-within g.S.Shadows g.met.S.Shadows.seen call l.shadows shadows l.ram ram (e.sight done) page h) (within-call call page _ _ (l.invariant.within page h)));
+          subst (IsWithin (g.S.Shadows.slots shadows ram page))
+          (sym (after-take cs l.call-index none page (old page) c.loop-call-test.true))
+          (within-trans _ _ _ (call-within g.S.Shadows g.met.S.Shadows.seen call l.shadows shadows l.ram ram (e.sight done) page h)
+          (within-call call page _ _ (l.invariant.within page h)));
       slots = λ free page h.
           call-exact g.S.Shadows g.met.S.Shadows.seen g.met.S.Shadows.protected call l.shadows shadows l.ram ram (e.sight done) free page h
           ∙ ap (after_call call page) (l.invariant.slots free page h)
@@ -65,7 +71,8 @@ loop-call-preserved g c =
 refused : (g : Over) (c : Then-not-apply g) → IsTrue c.apply.result → ⊥
 refused g c t = let e = c.if-not-apply.true in absurd (let q : false ≡ true = sym e ∙ t in cc)
 
-still : (g : Over) (c : Then-not-apply g) → SameSlots (g.S.Shadows.slots c.loop-call.shadows c.loop-call.ram) (g.S.Shadows.slots c.apply.new.shadows c.apply.new.ram)
+still : (g : Over) (c : Then-not-apply g) → SameSlots (g.S.Shadows.slots c.loop-call.shadows c.loop-call.ram)
+    (g.S.Shadows.slots c.apply.new.shadows c.apply.new.ram)
 still g c = same-slots g.S.Shadows g.met.S.Shadows.seen _ _ _ _ (c.apply.ensures.same (refused g c))
 
 pub returns-then-not-apply-clause-moves : goal.returns-then-not-apply-clause-moves
@@ -74,7 +81,8 @@ returns-then-not-apply-clause-moves g c = moved g c.before
 pub returns-then-not-apply-clause-owns : goal.returns-then-not-apply-clause-owns
 returns-then-not-apply-clause-owns g c =
     let f = g.S.Shadows.frames in
-    Owns-moves c.args.pool.now c.apply.new.pool c.args.ram.now c.apply.new.ram (f c.args.shadows.now c.args.ram.now) (f c.apply.new.shadows c.apply.new.ram) c.requires.owns (moved g c.before)
+    Owns-moves c.args.pool.now c.apply.new.pool c.args.ram.now c.apply.new.ram (f c.args.shadows.now c.args.ram.now)
+    (f c.apply.new.shadows c.apply.new.ram) c.requires.owns (moved g c.before)
 
 pub returns-then-not-apply-clause-all : goal.returns-then-not-apply-clause-all
 returns-then-not-apply-clause-all g c = λ h.
@@ -128,12 +136,14 @@ returns-then-not-apply-clause-adequate g c = λ free page h side write.
 pub returns-clause-owns : goal.returns-clause-owns
 returns-clause-owns g c =
     let l = c.loop-call in
-    Owns-moves c.args.pool.now l.pool c.args.ram.now l.ram (g.S.Shadows.frames c.args.shadows.now c.args.ram.now) (g.S.Shadows.frames l.shadows l.ram) c.requires.owns l.invariant.moves
+    Owns-moves c.args.pool.now l.pool c.args.ram.now l.ram (g.S.Shadows.frames c.args.shadows.now c.args.ram.now)
+    (g.S.Shadows.frames l.shadows l.ram) c.requires.owns l.invariant.moves
 
 pub returns-clause-sight : goal.returns-clause-sight
 returns-clause-sight g c =
     let l = c.loop-call in
-    l.invariant.sight ∙ ap (λ n. after_calls (take n c.args.calls.now) (g.S.Shadows.sight c.args.shadows.now c.args.ram.now)) (sym l.invariant.count)
+    l.invariant.sight ∙ ap (λ n. after_calls (take n c.args.calls.now) (g.S.Shadows.sight c.args.shadows.now c.args.ram.now))
+    (sym l.invariant.count)
 
 pub returns-clause-law : goal.returns-clause-law
 returns-clause-law g c = λ page h.
@@ -141,7 +151,8 @@ returns-clause-law g c = λ page h.
     let cs = c.args.calls.now in
     let o = g.S.Shadows.slots c.args.shadows.now c.args.ram.now page in
     let now = g.S.Shadows.slots l.shadows l.ram page in
-    follows (take l.count cs) page o now (subst (λ n. IsWithin now (after (take n cs) page o)) (sym l.invariant.count) (l.invariant.within page h))
+    follows (take l.count cs) page o now
+    (subst (λ n. IsWithin now (after (take n cs) page o)) (sym l.invariant.count) (l.invariant.within page h))
 
 pub returns-clause-adequate : goal.returns-clause-adequate
 returns-clause-adequate g c = λ free page h side write.
@@ -149,4 +160,5 @@ returns-clause-adequate g c = λ free page h side write.
     let cs = c.args.calls.now in
     let o = g.S.Shadows.slots c.args.shadows.now c.args.ram.now page in
     let now = g.S.Shadows.slots l.shadows l.ram page in
-    adequate-after (take l.count cs) page o now side write (l.invariant.slots free page h ∙ ap (λ n. after (take n cs) page o) (sym l.invariant.count))
+    adequate-after (take l.count cs) page o now side write
+    (l.invariant.slots free page h ∙ ap (λ n. after (take n cs) page o) (sym l.invariant.count))

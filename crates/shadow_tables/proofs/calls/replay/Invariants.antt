@@ -13,6 +13,8 @@ invariant-loop-call g l = record {
   moves : Moves l.fn.pool l.pool l.fn.ram l.ram (g.S.Shadows.frames l.fn.shadows l.fn.ram) (g.S.Shadows.frames l.shadows l.ram);
   left : length (free_list l.fn.pool l.fn.ram) ≤ length (free_list l.pool l.ram) + fills (take l.call-index l.calls);
   sight : g.S.Shadows.sight l.shadows l.ram ≡ after_calls (take l.call-index l.calls) (g.S.Shadows.sight l.fn.shadows l.fn.ram);
-  within : (page : ℕ) → page < 2 ^ 20 → IsWithin (g.S.Shadows.slots l.shadows l.ram page) (after (take l.call-index l.calls) page (g.S.Shadows.slots l.fn.shadows l.fn.ram page));
-  slots : ((s : _) → g.S.Shadows.write_protected s ≡ []) → (page : ℕ) → page < 2 ^ 20 → g.S.Shadows.slots l.shadows l.ram page ≡ after (take l.call-index l.calls) page (g.S.Shadows.slots l.fn.shadows l.fn.ram page);
+  within : (page : ℕ) → page < 2 ^ 20 → IsWithin (g.S.Shadows.slots l.shadows l.ram page)
+      (after (take l.call-index l.calls) page (g.S.Shadows.slots l.fn.shadows l.fn.ram page));
+  slots : ((s : _) → g.S.Shadows.write_protected s ≡ []) → (page : ℕ) → page < 2 ^ 20
+      → g.S.Shadows.slots l.shadows l.ram page ≡ after (take l.call-index l.calls) page (g.S.Shadows.slots l.fn.shadows l.fn.ram page);
 }

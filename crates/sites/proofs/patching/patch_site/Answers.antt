@@ -11,6 +11,7 @@ pub loop-i-preserved : goal.loop-i-preserved
 loop-i-preserved c =
     let room : c.args.at + c.loop-i.i + 1 ≤ length c.args.ram.now = omega arith in
     record {
-      memory = c.write8-in-loop-i.ensures.memory ∙ ap (λ m. with_byte m (c.args.at + c.loop-i.i) 244) c.loop-i.invariant.memory ∙ one_byte c.args.ram.now c.args.at c.loop-i.i c.loop-i.auto.i room;
+      memory = c.write8-in-loop-i.ensures.memory ∙ ap (λ m. with_byte m (c.args.at + c.loop-i.i) 244) c.loop-i.invariant.memory
+          ∙ one_byte c.args.ram.now c.args.at c.loop-i.i c.loop-i.auto.i room;
       len = c.write8-in-loop-i.ensures.len ∙ c.loop-i.invariant.len;
     }

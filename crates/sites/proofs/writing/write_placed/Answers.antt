@@ -8,4 +8,9 @@ unfolding placed
 returns c = rw (c.loop-s.invariant, take_all c.loop-s.s-index c.args.sites.now c.loop-s-test.false) refl
 
 pub loop-s-init : goal.loop-s-init
-loop-s-init c = rw (c.in_ok-extend_from_slice-2.ensures.items, c.in_ok-extend_from_slice.ensures.items, c.new-out.ensures.items, c.to_le_bytes.ensures) refl
+loop-s-init c = rw (
+  c.in_ok-extend_from_slice-2.ensures.items,
+  c.in_ok-extend_from_slice.ensures.items,
+  c.new-out.ensures.items,
+  c.to_le_bytes.ensures,
+) refl

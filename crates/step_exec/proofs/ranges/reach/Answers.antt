@@ -16,4 +16,6 @@ unfolding reaching
 returns-in-Stop-clause-gives g c = search rules
 
 pub returns-in-Ready-clause-before : goal.returns-in-Ready-clause-before
-returns-in-Ready-clause-before g c = λ other h. rw c.in-Some.is (before_last other (g.M.GuestMem.space c.args.mem.now) (g.M.GuestMem.space c.touch.new.self) c.touch.ensures.earlier h)
+returns-in-Ready-clause-before g c =
+    λ other h. rw c.in-Some.is (before_last other (g.M.GuestMem.space c.args.mem.now) (g.M.GuestMem.space c.touch.new.self)
+    c.touch.ensures.earlier h)

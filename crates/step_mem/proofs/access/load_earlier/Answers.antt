@@ -12,5 +12,9 @@ returns-clause-value g c =
       tables = m.tables;
       wrote = m.wrote;
       ready = record { start = m.ready.start; len = m.ready.len; write = m.ready.write };
-      earlier = record { start = m.earlier.start; len = m.earlier.len; set = changed (g.B.Translations.entries c.args.base.now c.args.ram.now) (take m.earlier.count m.changes) };
+      earlier = record {
+        start = m.earlier.start;
+        len = m.earlier.len;
+        set = changed (g.B.Translations.entries c.args.base.now c.args.ram.now) (take m.earlier.count m.changes);
+      };
     }) refl)

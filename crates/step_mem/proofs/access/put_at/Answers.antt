@@ -5,7 +5,8 @@ pub returns-clause-sound : goal.returns-clause-sound
 returns-clause-sound g c =
     let before = c.requires.sound in
     let limit : ℕ = 4096 * c.args.state.now.control.frames in
-    let kept = g.met.B.Translations.apart c.args.base.now limit c.args.ram.now c.write.new.ram before.below c.write.ensures.above c.write.ensures.length before.stands_now in
+    let kept = g.met.B.Translations.apart c.args.base.now limit c.args.ram.now c.write.new.ram before.below c.write.ensures.above
+    c.write.ensures.length before.stands_now in
     record {
       frames_in = omega (arith, before.frames_in, c.write.ensures.length);
       below = before.below;
@@ -17,7 +18,8 @@ returns-clause-sound g c =
       read = before.read;
       written = before.written;
       fits = before.fits;
-      stands_now = g.met.B.Translations.stays c.args.base.now limit c.args.ram.now c.write.new.ram before.below c.write.ensures.above c.write.ensures.length before.stands_now;
+      stands_now = g.met.B.Translations.stays c.args.base.now limit c.args.ram.now c.write.new.ram before.below c.write.ensures.above
+          c.write.ensures.length before.stands_now;
       within = rw kept before.within;
       reached = rw kept before.reached;
       apart = rw kept before.apart;
@@ -31,5 +33,6 @@ pub returns-clause-after : goal.returns-clause-after
 returns-clause-after g c =
     let before = c.requires.sound in
     let limit : ℕ = 4096 * c.args.state.now.control.frames in
-    let kept = g.met.B.Translations.apart c.args.base.now limit c.args.ram.now c.write.new.ram before.below c.write.ensures.above c.write.ensures.length before.stands_now in
+    let kept = g.met.B.Translations.apart c.args.base.now limit c.args.ram.now c.write.new.ram before.below c.write.ensures.above
+    c.write.ensures.length before.stands_now in
     rw (kept, c.write.ensures.memory, c.requires.place) refl

@@ -11,23 +11,28 @@ put_at-requires-2-clause-place g c =
     let at : ℕ = c.args.at in
     let s = space g.B.Translations c.args.base.now c.args.ram.now c.args.state.now in
     ap (λ (p : ℕ). p + 1) c.place-physical.ensures.place
-    ∙ (sym (next_place s.set at 1 c.requires.found (omega (arith, c.requires.one))) ∙ sym (ap (λ (t : Space). place t (at + 1)) c.put_at.ensures.after))
+    ∙ (sym (next_place s.set at 1 c.requires.found (omega (arith, c.requires.one)))
+    ∙ sym (ap (λ (t : Space). place t (at + 1)) c.put_at.ensures.after))
 
 pub put_at-requires-3-clause-place : goal.put_at-requires-3-clause-place
 unfolding place
 put_at-requires-3-clause-place g c =
     let at : ℕ = c.args.at in
     let s = space g.B.Translations c.args.base.now c.args.ram.now c.args.state.now in
-    let stays = ap (λ (t : Space). place t (at + 2)) c.put_at-2.ensures.after ∙ ap (λ (t : Space). place t (at + 2)) c.put_at.ensures.after in
-    ap (λ (p : ℕ). p + 2) c.place-physical.ensures.place ∙ (sym (next_place s.set at 2 c.requires.found (omega (arith, c.requires.one))) ∙ sym stays)
+    let stays =
+    ap (λ (t : Space). place t (at + 2)) c.put_at-2.ensures.after ∙ ap (λ (t : Space). place t (at + 2)) c.put_at.ensures.after in
+    ap (λ (p : ℕ). p + 2) c.place-physical.ensures.place
+    ∙ (sym (next_place s.set at 2 c.requires.found (omega (arith, c.requires.one))) ∙ sym stays)
 
 pub put_at-requires-4-clause-place : goal.put_at-requires-4-clause-place
 unfolding place
 put_at-requires-4-clause-place g c =
     let at : ℕ = c.args.at in
     let s = space g.B.Translations c.args.base.now c.args.ram.now c.args.state.now in
-    let stays = ap (λ (t : Space). place t (at + 3)) c.put_at-3.ensures.after ∙ (ap (λ (t : Space). place t (at + 3)) c.put_at-2.ensures.after ∙ ap (λ (t : Space). place t (at + 3)) c.put_at.ensures.after) in
-    ap (λ (p : ℕ). p + 3) c.place-physical.ensures.place ∙ (sym (next_place s.set at 3 c.requires.found (omega (arith, c.requires.one))) ∙ sym stays)
+    let stays = ap (λ (t : Space). place t (at + 3)) c.put_at-3.ensures.after
+    ∙ (ap (λ (t : Space). place t (at + 3)) c.put_at-2.ensures.after ∙ ap (λ (t : Space). place t (at + 3)) c.put_at.ensures.after) in
+    ap (λ (p : ℕ). p + 3) c.place-physical.ensures.place
+    ∙ (sym (next_place s.set at 3 c.requires.found (omega (arith, c.requires.one))) ∙ sym stays)
 
 pub returns-clause-saved : goal.returns-clause-saved
 unfolding written place

@@ -18,7 +18,8 @@ returns-then-at-start-clause-bytes c =
       | then-at-start-via-else-at-start+then-at-end w ↦ inr (omega arith)
     ] in
     c.part.ensures.bytes
-    ∙ sym (laid_part a.bytes.now a.first a.frames a.ram.now a.at a.len c.requires.frames (record { room = c.requires.laid; within = within; beside = beside }))
+    ∙ sym (laid_part a.bytes.now a.first a.frames a.ram.now a.at a.len c.requires.frames
+    (record { room = c.requires.laid; within = within; beside = beside }))
 
 pub returns-clause-bytes : goal.returns-clause-bytes
 unfolding part
@@ -33,8 +34,10 @@ returns-clause-bytes c =
     let cut : from + front - from ≡ front = omega arith in
     let low : start ≤ a.at = omega arith in
     let within : a.at + (front + (a.len - front)) ≤ 4096 * a.frames = omega arith in
-    let ends : (a.len - front ≡ 0) ⊎ (a.at + front ≡ start + length a.bytes.now) = elim (cases_lt (start + length a.bytes.now - a.at) a.len) [ inl l ↦ inr (omega arith) | inr l ↦ inl (omega arith) ] in
+    let ends : (a.len - front ≡ 0) ⊎ (a.at + front ≡ start + length a.bytes.now) =
+    elim (cases_lt (start + length a.bytes.now - a.at) a.len) [ inl l ↦ inr (omega arith) | inr l ↦ inl (omega arith) ] in
     ap (λ (n : ℕ). take n (drop from a.bytes.now) ++ c.part-2.result.now) cut
     ∙ (ap (λ (l : List ℕ). take front (drop from a.bytes.now) ++ l) c.part-2.ensures.bytes
-    ∙ (sym (laid_begins a.bytes.now a.first a.frames a.ram.now a.at (a.len - front) front c.requires.frames c.requires.laid low high within ends)
+    ∙ (sym (laid_begins a.bytes.now a.first a.frames a.ram.now a.at (a.len - front) front c.requires.frames c.requires.laid
+    low high within ends)
     ∙ ap (part (laid a.bytes.now a.first a.frames a.ram.now) a.at) whole))

@@ -6,7 +6,8 @@ pub returns-then-at-start : goal.returns-then-at-start
 returns-then-at-start c =
     let a = c.args in
     c.read8.ensures
-    ∙ sym (laid_byte a.bytes.now a.first a.frames a.ram.now a.at c.requires.frames (record { room = c.requires.laid; within = omega arith; beside = inl (omega arith) }))
+    ∙ sym (laid_byte a.bytes.now a.first a.frames a.ram.now a.at c.requires.frames
+    (record { room = c.requires.laid; within = omega arith; beside = inl (omega arith) }))
 
 pub returns-then-from-bytes : goal.returns-then-from-bytes
 returns-then-from-bytes c =
@@ -19,4 +20,5 @@ pub returns : goal.returns
 returns c =
     let a = c.args in
     c.read8-2.ensures
-    ∙ sym (laid_byte a.bytes.now a.first a.frames a.ram.now a.at c.requires.frames (record { room = c.requires.laid; within = omega arith; beside = inr (omega arith) }))
+    ∙ sym (laid_byte a.bytes.now a.first a.frames a.ram.now a.at c.requires.frames
+    (record { room = c.requires.laid; within = omega arith; beside = inr (omega arith) }))

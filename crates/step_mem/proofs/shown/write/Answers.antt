@@ -7,7 +7,8 @@ use Rattle.step_mem.proofs.shown.write.Goals as goal
 pub returns-clause-memory : goal.returns-clause-memory
 returns-clause-memory c =
     ap (shown c.args.guard.now c.args.frames) c.write8.ensures.memory
-    ∙ shown_with_byte c.args.guard.now.text.now c.args.guard.now.own c.args.frames c.args.ram.now c.args.at c.args.v c.requires.frames c.requires.laid c.requires.within c.requires.apart
+    ∙ shown_with_byte c.args.guard.now.text.now c.args.guard.now.own c.args.frames c.args.ram.now c.args.at c.args.v c.requires.frames
+    c.requires.laid c.requires.within c.requires.apart
 
 pub returns-clause-above : goal.returns-clause-above
 returns-clause-above c =
@@ -18,4 +19,5 @@ returns-clause-above c =
 pub returns-clause-hidden : goal.returns-clause-hidden
 returns-clause-hidden c =
     ap (hidden c.args.guard.now c.args.frames) c.write8.ensures.memory
-    ∙ hidden_with_byte c.args.guard.now.text.now c.args.guard.now.own c.args.frames c.args.ram.now c.args.at c.args.v c.requires.frames c.requires.laid c.requires.within c.requires.apart
+    ∙ hidden_with_byte c.args.guard.now.text.now c.args.guard.now.own c.args.frames c.args.ram.now c.args.at c.args.v c.requires.frames
+    c.requires.laid c.requires.within c.requires.apart

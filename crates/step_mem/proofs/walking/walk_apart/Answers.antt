@@ -9,8 +9,10 @@ pub returns-clause-walk : goal.returns-clause-walk
 returns-clause-walk c =
     let a = c.args in
     c.walk.ensures.walk
-    ∙ sym (shown_fresh a.guard.now.text.now a.guard.now.own a.control.frames a.ram.now a.control.cr3 a.control.pse a.page c.requires.frames c.requires.laid c.requires.page
-    (walks_apart a.guard.now.text.now a.guard.now.own a.control.frames a.ram.now a.control.cr3 a.control.pse a.page a.control.wp c.requires.frames c.requires.laid c.requires.page c.requires.apart))
+    ∙ sym (shown_fresh a.guard.now.text.now a.guard.now.own a.control.frames a.ram.now a.control.cr3 a.control.pse a.page c.requires.frames
+    c.requires.laid c.requires.page
+    (walks_apart a.guard.now.text.now a.guard.now.own a.control.frames a.ram.now a.control.cr3 a.control.pse a.page a.control.wp
+    c.requires.frames c.requires.laid c.requires.page c.requires.apart))
 
 pub returns-clause-apart : goal.returns-clause-apart
 returns-clause-apart c =
@@ -18,4 +20,5 @@ returns-clause-apart c =
     let P : Walk → Type 0 = IsFoundApart (mode_of a.guard.now) in
     subst P (sym c.walk.ensures.walk)
     (found_apart a.guard.now.text.now a.guard.now.own a.control.frames a.ram.now a.control.cr3 a.control.pse a.page c.requires.page
-    (walks_apart a.guard.now.text.now a.guard.now.own a.control.frames a.ram.now a.control.cr3 a.control.pse a.page a.control.wp c.requires.frames c.requires.laid c.requires.page c.requires.apart))
+    (walks_apart a.guard.now.text.now a.guard.now.own a.control.frames a.ram.now a.control.cr3 a.control.pse a.page a.control.wp
+    c.requires.frames c.requires.laid c.requires.page c.requires.apart))

@@ -13,7 +13,8 @@ loop-byte-preserved c =
     let i = c.loop-byte.byte-index in
     record {
       text =
-          two_pieces c.args.line.now.items (digits_of (take i xs)) (hex2 (get_or xs i 0)) _ _ c.loop-byte.invariant.text c.two_digits.ensures.text
+          two_pieces c.args.line.now.items (digits_of (take i xs)) (hex2 (get_or xs i 0)) _ _ c.loop-byte.invariant.text
+          c.two_digits.ensures.text
           ∙ ap (λ (text : List ℕ). c.args.line.now.items ++ text) (sym (more_bytes xs i c.loop-byte-test.true));
       len = omega (arith, c.two_digits.ensures.len, c.loop-byte.invariant.len);
     }

@@ -20,16 +20,24 @@ returns-in-Ok-put_stop-clause-puts g c = λ image.
     let m = bare image c.args.script.now.list c.args.machine.now.frames in
     let once = c.in-Err.ensures.once image in
     let found = c.requires.found image in
-    let same = stop_same m c.args.from (state_of g.C.Cache.entries c.args.machine.now) _ _ _ c.in-Err.stopped.raised c.in-Err.stopped.page found.step found.does found.cpu once.raised once.page in
-    (once.halts, once.count, subst (λ (l : List ℕ). Appends (g.O.Sink.taken c.args.out.now) (g.O.Sink.taken c.put_stop.new.out) l) same c.in-Ok-put_stop.ensures.ok)
+    let same = stop_same m c.args.from (state_of g.C.Cache.entries c.args.machine.now) _ _ _ c.in-Err.stopped.raised c.in-Err.stopped.page
+    found.step found.does found.cpu once.raised once.page in (
+      once.halts,
+      once.count,
+      subst (λ (l : List ℕ). Appends (g.O.Sink.taken c.args.out.now) (g.O.Sink.taken c.put_stop.new.out) l) same
+          c.in-Ok-put_stop.ensures.ok,
+    )
 
 pub returns-in-Err-put_stop-clause-puts : goal.returns-in-Err-put_stop-clause-puts
 returns-in-Err-put_stop-clause-puts g c = λ image.
     let m = bare image c.args.script.now.list c.args.machine.now.frames in
     let once = c.in-Err.ensures.once image in
     let found = c.requires.found image in
-    let same = stop_same m c.args.from (state_of g.C.Cache.entries c.args.machine.now) _ _ _ c.in-Err.stopped.raised c.in-Err.stopped.page found.step found.does found.cpu once.raised once.page in
-    AtStop c.in-Err.stopped.stop once.halts (subst (λ (l : List ℕ). AppendsFront (g.O.Sink.taken c.args.out.now) (g.O.Sink.taken c.put_stop.new.out) l) same c.in-Err-put_stop.ensures.failed)
+    let same = stop_same m c.args.from (state_of g.C.Cache.entries c.args.machine.now) _ _ _ c.in-Err.stopped.raised c.in-Err.stopped.page
+    found.step found.does found.cpu once.raised once.page in
+    AtStop c.in-Err.stopped.stop once.halts
+    (subst (λ (l : List ℕ). AppendsFront (g.O.Sink.taken c.args.out.now) (g.O.Sink.taken c.put_stop.new.out) l) same
+    c.in-Err-put_stop.ensures.failed)
 
 pub returns-in-Ok-put_seen-clause-puts : goal.returns-in-Ok-put_seen-clause-puts
 returns-in-Ok-put_seen-clause-puts g c = λ image.
@@ -67,7 +75,8 @@ returns-in-Err-put_line-clause-puts g c = λ image.
     let same = line_same m c.args.from (only_view c.args.only.now) b after c.args.before.now c.in-Ok.done.raised
     (c.requires.found image) once.raised in
     Within once.report once.whole once.went once.part
-    (front_of old old new [] (line_if_printed m c.args.from (only_view c.args.only.now) b after) (lines_of (once.report).items) _ (appends_none old)
+    (front_of old old new [] (line_if_printed m c.args.from (only_view c.args.only.now) b after) (lines_of (once.report).items)
+    _ (appends_none old)
     (subst (λ (l : List ℕ). AppendsFront old new l) same c.in-Err-put_line.ensures.failed) refl)
 
 pub returns-in-Err-put_seen-clause-puts : goal.returns-in-Err-put_seen-clause-puts

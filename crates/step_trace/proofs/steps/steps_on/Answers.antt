@@ -28,15 +28,19 @@ loop-room-preserved g c =
     record {
       put = λ image first told h.
           let puts = rw c.in-Reached.is at c.in-Ok.ensures.puts image in
-          let step = subst (λ (f : ℕ). StepPuts (bare image c.args.script.now.list f) c.args.from (only_view c.args.only.now) (state_of e m) (state_of e c.step_on.new.machine) (g.O.Sink.taken c.loop-room.out) (g.O.Sink.taken c.step_on.new.out) (Ok Reached)) c.loop-room.invariant.goes_on.frames puts in
-          went_on (bare image c.args.script.now.list c.args.machine.now.frames) c.args.from (only_view c.args.only.now) first (state_of e m) (state_of e c.step_on.new.machine) told _ _
+          let step = subst (λ (f : ℕ). StepPuts (bare image c.args.script.now.list f) c.args.from (only_view c.args.only.now) (state_of e m)
+          (state_of e c.step_on.new.machine) (g.O.Sink.taken c.loop-room.out) (g.O.Sink.taken c.step_on.new.out) (Ok Reached))
+          c.loop-room.invariant.goes_on.frames puts in
+          went_on (bare image c.args.script.now.list c.args.machine.now.frames) c.args.from (only_view c.args.only.now) first (state_of e m)
+          (state_of e c.step_on.new.machine) told _ _
           (c.loop-room.invariant.put image first told h) step;
       goes_on = goes_further _ _ _ c.loop-room.invariant.goes_on (rw c.in-Reached.is at c.in-Ok.ensures.goes_on);
       kept = c.in-Ok.ensures.kept ∙ c.loop-room.invariant.kept;
       within =
           let count = rw c.in-Reached.is at c.in-Ok.ensures.count in
           omega (arith, count, below c.step.result m.step c.args.n c.step.ensures c.loop-room-test.true);
-      none = subst (λ (k : ℕ). NoneComes c.args.script.now.list k c.step_on.new.room.next) (sym (rw c.in-Reached.is at c.in-Ok.ensures.count)) c.step_on.ensures.none;
+      none = subst (λ (k : ℕ). NoneComes c.args.script.now.list k c.step_on.new.room.next)
+          (sym (rw c.in-Reached.is at c.in-Ok.ensures.count)) c.step_on.ensures.none;
     }
 
 pub returns-in-Stopped-clause-pauses : goal.returns-in-Stopped-clause-pauses
@@ -44,16 +48,22 @@ returns-in-Stopped-clause-pauses g c = λ image first told h.
     let e = g.C.Cache.entries in
     let m = c.loop-room.machine in
     let puts = rw c.in-Stopped.is at c.in-Ok.ensures.puts image in
-    let step = subst (λ (f : ℕ). StepPuts (bare image c.args.script.now.list f) c.args.from (only_view c.args.only.now) (state_of e m) (state_of e c.step_on.new.machine) (g.O.Sink.taken c.loop-room.out) (g.O.Sink.taken c.step_on.new.out) (Ok (Stopped c.in-Stopped.stop))) c.loop-room.invariant.goes_on.frames puts in
-    stops_there (bare image c.args.script.now.list c.args.machine.now.frames) c.args.n c.args.from (only_view c.args.only.now) first (state_of e m) (state_of e c.step_on.new.machine) told _ _ c.in-Stopped.stop
+    let step = subst (λ (f : ℕ). StepPuts (bare image c.args.script.now.list f) c.args.from (only_view c.args.only.now) (state_of e m)
+    (state_of e c.step_on.new.machine) (g.O.Sink.taken c.loop-room.out) (g.O.Sink.taken c.step_on.new.out) (Ok (Stopped c.in-Stopped.stop)))
+    c.loop-room.invariant.goes_on.frames puts in
+    stops_there (bare image c.args.script.now.list c.args.machine.now.frames) c.args.n c.args.from (only_view c.args.only.now) first
+    (state_of e m) (state_of e c.step_on.new.machine) told _ _ c.in-Stopped.stop
     (c.loop-room.invariant.put image first told h) step (below c.step.result m.step c.args.n c.step.ensures c.loop-room-test.true)
 
 pub returns-in-Err-clause-pauses : goal.returns-in-Err-clause-pauses
 returns-in-Err-clause-pauses g c = λ image first told h.
     let e = g.C.Cache.entries in
     let m = c.loop-room.machine in
-    let step = subst (λ (f : ℕ). StepPuts (bare image c.args.script.now.list f) c.args.from (only_view c.args.only.now) (state_of e m) (state_of e c.step_on.new.machine) (g.O.Sink.taken c.loop-room.out) (g.O.Sink.taken c.step_on.new.out) (Err c.in-Err.failed)) c.loop-room.invariant.goes_on.frames (c.in-Err.ensures.puts image) in
-    cut_there (bare image c.args.script.now.list c.args.machine.now.frames) c.args.n c.args.from (only_view c.args.only.now) first (state_of e m) (state_of e c.step_on.new.machine) told _ _
+    let step = subst (λ (f : ℕ). StepPuts (bare image c.args.script.now.list f) c.args.from (only_view c.args.only.now) (state_of e m)
+    (state_of e c.step_on.new.machine) (g.O.Sink.taken c.loop-room.out) (g.O.Sink.taken c.step_on.new.out) (Err c.in-Err.failed))
+    c.loop-room.invariant.goes_on.frames (c.in-Err.ensures.puts image) in
+    cut_there (bare image c.args.script.now.list c.args.machine.now.frames) c.args.n c.args.from (only_view c.args.only.now) first
+    (state_of e m) (state_of e c.step_on.new.machine) told _ _
     (c.loop-room.invariant.put image first told h) step (below c.step.result m.step c.args.n c.step.ensures c.loop-room-test.true)
 
 pub returns-clause-pauses : goal.returns-clause-pauses

@@ -11,8 +11,10 @@ use Rattle.step_trace.proofs.steps.steps_on.Given as goal
 abbrev pub invariant-loop-room : goal.invariant-loop-room
 invariant-loop-room g l = record {
   put : (image : Image) (first : State) (told : Option (List ℕ))
-      → HasPut (bare image l.script.list l.fn.machine.frames) l.from (only_view l.only) first (state_of g.C.Cache.entries l.fn.machine) told (g.O.Sink.taken l.fn.out)
-      → HasPut (bare image l.script.list l.fn.machine.frames) l.from (only_view l.only) first (state_of g.C.Cache.entries l.machine) told (g.O.Sink.taken l.out);
+      → HasPut (bare image l.script.list l.fn.machine.frames) l.from (only_view l.only) first (state_of g.C.Cache.entries l.fn.machine) told
+      (g.O.Sink.taken l.fn.out)
+      → HasPut (bare image l.script.list l.fn.machine.frames) l.from (only_view l.only) first (state_of g.C.Cache.entries l.machine) told
+      (g.O.Sink.taken l.out);
   goes_on : GoesOn g.C.Cache.entries g.C.Cache.is_exact l.fn.machine l.machine;
   kept : g.O.Sink.faults l.out ≡ g.O.Sink.faults l.fn.out;
   within : l.machine.step ≤ l.n;

@@ -14,7 +14,11 @@ pub returns-in-Ok : goal.returns-in-Ok
 returns-in-Ok g c = λ image first told h.
     let taken = g.O.Sink.taken in
     let faults = g.O.Sink.faults in
-    let ends = subst (λ (x : End). EndsAs c.steps_on.new.machine.step x (taken c.steps_on.new.out) (taken c.end_run.new.out) (faults c.steps_on.new.out) (faults c.end_run.new.out) c.end_run.result) c.end_of.ensures
-    (subst (λ (k : ℕ). EndsAs k c.end_of.result (taken c.steps_on.new.out) (taken c.end_run.new.out) (faults c.steps_on.new.out) (faults c.end_run.new.out) c.end_run.result) c.step-steps.ensures c.end_run.ensures.ends) in
-    paused (bare image c.args.script.now.list c.args.machine.now.frames) c.args.n c.args.from (only_view c.args.only.now) first (state_of g.C.Cache.entries c.steps_on.new.machine) told _ _ c.in-Ok.pause _ _ _ c.end_run.result
+    let ends =
+    subst (λ (x : End). EndsAs c.steps_on.new.machine.step x (taken c.steps_on.new.out) (taken c.end_run.new.out)
+    (faults c.steps_on.new.out) (faults c.end_run.new.out) c.end_run.result) c.end_of.ensures
+    (subst (λ (k : ℕ). EndsAs k c.end_of.result (taken c.steps_on.new.out) (taken c.end_run.new.out) (faults c.steps_on.new.out)
+    (faults c.end_run.new.out) c.end_run.result) c.step-steps.ensures c.end_run.ensures.ends) in
+    paused (bare image c.args.script.now.list c.args.machine.now.frames) c.args.n c.args.from (only_view c.args.only.now) first
+    (state_of g.C.Cache.entries c.steps_on.new.machine) told _ _ c.in-Ok.pause _ _ _ c.end_run.result
     (c.in-Ok.ensures.pauses image first told h) c.in-Ok.ensures.kept ends

@@ -12,8 +12,10 @@ use Rattle.step_trace.proofs.trace.trace_on.Goals as goal
 pub returns-in-Err : goal.returns-in-Err
 returns-in-Err g c = λ image.
     let e = g.C.Cache.entries in (
-      cut_early (bare image c.args.script.now.list c.args.machine.now.frames) _ c.args.n c.args.from _ (only_view c.args.only.now) (state_of e c.args.machine.now) (state_of e c.slice.new.self) _ _ c.in-Err.field-0
-          (omega (arith, c.requires.begun, c.unlisted-first.ensures.from)) (omega (arith, c.requires.begun, c.unlisted-first.ensures.within)) (c.in-Err.ensures.slice image),
+      cut_early (bare image c.args.script.now.list c.args.machine.now.frames) _ c.args.n c.args.from _ (only_view c.args.only.now)
+          (state_of e c.args.machine.now) (state_of e c.slice.new.self) _ _ c.in-Err.field-0
+          (omega (arith, c.requires.begun, c.unlisted-first.ensures.from))
+          (omega (arith, c.requires.begun, c.unlisted-first.ensures.within)) (c.in-Err.ensures.slice image),
       c.in-Err.ensures.cause,
     )
 
@@ -24,10 +26,15 @@ returns-in-Stopped g c = λ image.
     let faults = g.O.Sink.faults in
     let m = bare image c.args.script.now.list c.args.machine.now.frames in
     let slice = rw c.in-Stopped.is at (c.in-Ok.ensures.slice image) in
-    let p = stopped_early m _ c.args.n c.args.from _ (only_view c.args.only.now) (state_of e c.args.machine.now) (state_of e c.slice.new.self) _ _ c.in-Stopped.stop
-    (omega (arith, c.requires.begun, c.unlisted-first.ensures.from)) (omega (arith, c.requires.begun, c.unlisted-first.ensures.within)) slice in
-    let ends = subst (λ (k : ℕ). EndsAs k (end.Stopped c.in-Stopped.stop) (taken c.slice.new.out) (taken c.end_run.new.out) (faults c.slice.new.out) (faults c.end_run.new.out) c.end_run.result) c.step-steps.ensures c.end_run.ensures.ends in
-    paused m c.args.n c.args.from (only_view c.args.only.now) (state_of e c.args.machine.now) (state_of e c.slice.new.self) _ _ _ (Stopped c.in-Stopped.stop) _ _ _ c.end_run.result p c.in-Ok.ensures.count ends
+    let p = stopped_early m _ c.args.n c.args.from _ (only_view c.args.only.now) (state_of e c.args.machine.now)
+    (state_of e c.slice.new.self) _ _ c.in-Stopped.stop
+    (omega (arith, c.requires.begun, c.unlisted-first.ensures.from))
+    (omega (arith, c.requires.begun, c.unlisted-first.ensures.within)) slice in
+    let ends =
+    subst (λ (k : ℕ). EndsAs k (end.Stopped c.in-Stopped.stop) (taken c.slice.new.out) (taken c.end_run.new.out) (faults c.slice.new.out)
+    (faults c.end_run.new.out) c.end_run.result) c.step-steps.ensures c.end_run.ensures.ends in
+    paused m c.args.n c.args.from (only_view c.args.only.now) (state_of e c.args.machine.now) (state_of e c.slice.new.self) _ _ _
+    (Stopped c.in-Stopped.stop) _ _ _ c.end_run.result p c.in-Ok.ensures.count ends
 
 pub steps_to_end-requires-clause-kept : goal.steps_to_end-requires-clause-kept
 steps_to_end-requires-clause-kept g c = (rw c.in-Reached.is at c.in-Ok.ensures.goes_on).kept
@@ -42,8 +49,13 @@ returns-in-Reached g c = λ image.
     let new = state_of e c.slice.new.self in
     let goes = rw c.in-Reached.is at c.in-Ok.ensures.goes_on in
     let slice = rw c.in-Reached.is at (c.in-Ok.ensures.slice image) in
-    let put = begun (bare image c.args.script.now.list c.args.machine.now.frames) _ c.args.from _ only old new _ _ (omega (arith, c.requires.begun, c.unlisted-first.ensures.from)) slice in
-    let put_now = subst (λ (f : ℕ). HasPut (bare image c.args.script.now.list f) c.args.from only old new (taken c.args.out.now) (taken c.slice.new.out)) (sym goes.frames) put in
+    let put = begun (bare image c.args.script.now.list c.args.machine.now.frames) _ c.args.from _ only old new _ _
+    (omega (arith, c.requires.begun, c.unlisted-first.ensures.from)) slice in
+    let put_now =
+    subst (λ (f : ℕ). HasPut (bare image c.args.script.now.list f) c.args.from only old new (taken c.args.out.now) (taken c.slice.new.out))
+    (sym goes.frames) put in
     let traces = c.steps_to_end.ensures image old (taken c.args.out.now) put_now in
-    subst (λ (k : ℕ). TracesAs (bare image c.args.script.now.list c.args.machine.now.frames) c.args.n c.args.from only old (taken c.args.out.now) (taken c.steps_to_end.new.out) k (faults c.steps_to_end.new.out) c.steps_to_end.result) c.in-Ok.ensures.count
-    (subst (λ (f : ℕ). TracesAs (bare image c.args.script.now.list f) c.args.n c.args.from only old (taken c.args.out.now) (taken c.steps_to_end.new.out) (faults c.slice.new.out) (faults c.steps_to_end.new.out) c.steps_to_end.result) goes.frames traces)
+    subst (λ (k : ℕ). TracesAs (bare image c.args.script.now.list c.args.machine.now.frames) c.args.n c.args.from only old
+    (taken c.args.out.now) (taken c.steps_to_end.new.out) k (faults c.steps_to_end.new.out) c.steps_to_end.result) c.in-Ok.ensures.count
+    (subst (λ (f : ℕ). TracesAs (bare image c.args.script.now.list f) c.args.n c.args.from only old (taken c.args.out.now)
+    (taken c.steps_to_end.new.out) (faults c.slice.new.out) (faults c.steps_to_end.new.out) c.steps_to_end.result) goes.frames traces)

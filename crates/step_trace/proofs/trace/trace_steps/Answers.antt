@@ -12,5 +12,9 @@ returns-in-Ok g c =
     let started = c.in-Ok.ensures.started in
     let only = only_view c.args.only.now in
     let first = state_of (λ (b : Buffer). b) c.in-Ok.machine in
-    let ran = subst (λ (f : ℕ). TracesAs (bare c.args.image.now c.args.script.now.list f) c.args.n c.args.from only first (g.O.Sink.taken c.args.out.now) (g.O.Sink.taken c.trace_on.new.out) (g.O.Sink.faults c.args.out.now) (g.O.Sink.faults c.trace_on.new.out) c.trace_on.result) started.1 (c.trace_on.ensures c.args.image.now) in
-    answered c.args.image.now c.args.script.now.list c.args.frames c.args.n c.args.from only first _ _ _ _ c.trace_on.result started.0 (started.4 c.args.script.now.list) ran
+    let ran =
+    subst (λ (f : ℕ). TracesAs (bare c.args.image.now c.args.script.now.list f) c.args.n c.args.from only first
+    (g.O.Sink.taken c.args.out.now) (g.O.Sink.taken c.trace_on.new.out) (g.O.Sink.faults c.args.out.now)
+    (g.O.Sink.faults c.trace_on.new.out) c.trace_on.result) started.1 (c.trace_on.ensures c.args.image.now) in
+    answered c.args.image.now c.args.script.now.list c.args.frames c.args.n c.args.from only first _ _ _ _ c.trace_on.result started.0
+    (started.4 c.args.script.now.list) ran

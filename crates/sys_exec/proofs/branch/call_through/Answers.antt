@@ -9,7 +9,9 @@ save-requires g c =
 
 pub returns-clause-pages : goal.returns-clause-pages
 returns-clause-pages g c =
-    rw (c.save.ensures.saved, c.load_earlier-target.ensures.same) (further 2 2 _ _ _ c.in_ok-reach_operand.ensures.pages c.in_ok-reach.ensures.pages)
+    rw (c.save.ensures.saved, c.load_earlier-target.ensures.same)
+    (further 2 2 _ _ _ c.in_ok-reach_operand.ensures.pages c.in_ok-reach.ensures.pages)
 
 pub returns-clause-frame : goal.returns-clause-frame
-returns-clause-frame g c = c.save.ensures.frame ∙ (c.load_earlier-target.ensures.frame ∙ (c.in_ok-reach.ensures.frame ∙ c.in_ok-reach_operand.ensures.frame))
+returns-clause-frame g c =
+    c.save.ensures.frame ∙ (c.load_earlier-target.ensures.frame ∙ (c.in_ok-reach.ensures.frame ∙ c.in_ok-reach_operand.ensures.frame))

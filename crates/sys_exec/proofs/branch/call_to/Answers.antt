@@ -5,7 +5,13 @@ use Rattle.sys_exec.proofs.branch.call_to.Goals as goal
 pub returns-in_ok-target-in-Memory-clause-gives : goal.returns-in_ok-target-in-Memory-clause-gives
 unfolding call_to
 returns-in_ok-target-in-Memory-clause-gives g c =
-    rw (c.in-Memory.is, c.in_ok-target-in-Memory.ensures.gives, c.next-in-Memory.ensures, c.gone_to-in-Memory.ensures, c.past_push-in-Memory.ensures) refl
+    rw (
+      c.in-Memory.is,
+      c.in_ok-target-in-Memory.ensures.gives,
+      c.next-in-Memory.ensures,
+      c.gone_to-in-Memory.ensures,
+      c.past_push-in-Memory.ensures,
+    ) refl
 
 pub returns-in_ok-push-in-Register-clause-gives : goal.returns-in_ok-push-in-Register-clause-gives
 unfolding call_to

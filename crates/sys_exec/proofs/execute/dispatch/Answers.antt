@@ -11,7 +11,8 @@ use Rattle.sys_exec.specs.Sys.{row, sys_work}
 use Rattle.sys_exec.proofs.Pages.{none, wider, has}
 use Rattle.sys_exec.proofs.execute.dispatch.Goals as goal
 
-at_row : (o : Op) (insn : Insn) (len : ℕ) (cpu : Cpu) (s t : Space) (r : Result SysOutcome Refusal) → insn.op ≡ o → Gives r t (row o insn len cpu s) → Gives r t (sys_work insn len cpu s)
+at_row : (o : Op) (insn : Insn) (len : ℕ) (cpu : Cpu) (s t : Space) (r : Result SysOutcome Refusal) → insn.op ≡ o
+    → Gives r t (row o insn len cpu s) → Gives r t (sys_work insn len cpu s)
 unfolding sys_work
 at_row o insn len cpu s t r e h = subst (λ (x : Op). Gives r t (row x insn len cpu s)) (sym e) h
 

@@ -5,7 +5,15 @@ use Rattle.sys_exec.proofs.moves.keep_selector.Goals as goal
 pub returns-in_ok-reach_operand-in-Memory-clause-gives : goal.returns-in_ok-reach_operand-in-Memory-clause-gives
 unfolding selector_kept
 returns-in_ok-reach_operand-in-Memory-clause-gives g c =
-    rw (c.in-Memory.is, c.in_ok-reach_operand-in-Memory.ensures.gives, c.next-in-Memory.ensures, c.past.ensures, c.save.ensures.saved, c.from-in-Memory.ensures, c.address_of.ensures) refl
+    rw (
+      c.in-Memory.is,
+      c.in_ok-reach_operand-in-Memory.ensures.gives,
+      c.next-in-Memory.ensures,
+      c.past.ensures,
+      c.save.ensures.saved,
+      c.from-in-Memory.ensures,
+      c.address_of.ensures,
+    ) refl
 
 pub returns-in-Register-clause-gives : goal.returns-in-Register-clause-gives
 unfolding selector_kept

@@ -8,4 +8,5 @@ none_some x h = cc
 
 -- src/steps.rt, where the TLB is made
 pub begin_again-requires-clause-within : goal.begin_again-requires-clause-within
-begin_again-requires-clause-within g c = λ page e found. absurd (none_some e (sym (get-empty nat_cmp page) ∙ (ap (λ m. get m page) (sym c.new.ensures) ∙ found)))
+begin_again-requires-clause-within g c =
+    λ page e found. absurd (none_some e (sym (get-empty nat_cmp page) ∙ (ap (λ m. get m page) (sym c.new.ensures) ∙ found)))

@@ -19,4 +19,5 @@ returns-in-Some-clause-made g c = λ image script.
 
 pub returns-in-None-clause-made : goal.returns-in-None-clause-made
 returns-in-None-clause-made g c = λ image script.
-    ap (option_map (λ entry. insert (g.C.Cache.entries c.args.machine.now.kept.cache) c.args.page entry)) (sym (c.in-None.ensures.found image script))
+    ap (option_map (λ entry. insert (g.C.Cache.entries c.args.machine.now.kept.cache) c.args.page entry))
+    (sym (c.in-None.ensures.found image script))

@@ -8,7 +8,8 @@ use Rattle.trace_check.proofs.course.follow.Given as goal
 
 abbrev pub invariant-loop-machine : goal.invariant-loop-machine
 invariant-loop-machine g l = record {
-  near : (image : Image) → Nears (bare image l.script.list l.fn.machine.frames) l.list l.bound (state_of g.C.Cache.entries l.fn.machine) (state_of g.C.Cache.entries l.machine) (g.O.Sink.taken l.fn.out) (g.O.Sink.taken l.out);
+  near : (image : Image) → Nears (bare image l.script.list l.fn.machine.frames) l.list l.bound (state_of g.C.Cache.entries l.fn.machine)
+      (state_of g.C.Cache.entries l.machine) (g.O.Sink.taken l.fn.out) (g.O.Sink.taken l.out);
   kept : IsKept l.machine.frames (state_of g.C.Cache.entries l.machine);
   exact : g.C.Cache.is_exact l.machine.kept.cache ≡ true;
   frames : l.machine.frames ≡ l.fn.machine.frames;

@@ -16,7 +16,8 @@ returns-in-Drop-clause-made g c = λ image script.
     let page = c.args.choice.now.page in
     let turned = all_turned (g.C.Cache.entries c.cache_mut.result.now) new page None c.drop_page.ensures.gone c.drop_page.ensures.others in
     let gone = subst (λ (x : g.row.C.Denot). new ≡ with_entry (g.C.Cache.entries x) page None) c.cache_mut.ensures.cache turned in
-    of_kind (bare image script c.args.machine.now.frames) (state_of g.C.Cache.entries c.args.machine.now) kinds.Drop c.args.choice.now.kind page old new true c.in-Drop.is (ap (λ (m : Set). Some m) (sym gone))
+    of_kind (bare image script c.args.machine.now.frames) (state_of g.C.Cache.entries c.args.machine.now) kinds.Drop c.args.choice.now.kind
+    page old new true c.in-Drop.is (ap (λ (m : Set). Some m) (sym gone))
 
 pub returns-in-Drop-clause-kept : goal.returns-in-Drop-clause-kept
 returns-in-Drop-clause-kept g c =
@@ -34,7 +35,8 @@ pub returns-in-Empty-clause-made : goal.returns-in-Empty-clause-made
 returns-in-Empty-clause-made g c = λ image script.
     let old = g.C.Cache.entries c.args.machine.now.kept.cache in
     let new = g.C.Cache.entries c.drop_all.new.self in
-    of_kind (bare image script c.args.machine.now.frames) (state_of g.C.Cache.entries c.args.machine.now) kinds.Empty c.args.choice.now.kind c.args.choice.now.page old new true c.in-Empty.is (ap (λ (m : Set). Some m) (sym (all_gone new c.drop_all.ensures.gone)))
+    of_kind (bare image script c.args.machine.now.frames) (state_of g.C.Cache.entries c.args.machine.now) kinds.Empty c.args.choice.now.kind
+    c.args.choice.now.page old new true c.in-Empty.is (ap (λ (m : Set). Some m) (sym (all_gone new c.drop_all.ensures.gone)))
 
 pub returns-in-Empty-clause-kept : goal.returns-in-Empty-clause-kept
 returns-in-Empty-clause-kept g c = record {
@@ -44,7 +46,9 @@ returns-in-Empty-clause-kept g c = record {
 
 pub returns-in-Add-clause-made : goal.returns-in-Add-clause-made
 returns-in-Add-clause-made g c = λ image script.
-    of_kind (bare image script c.args.machine.now.frames) (state_of g.C.Cache.entries c.args.machine.now) kinds.Add c.args.choice.now.kind c.args.choice.now.page (g.C.Cache.entries c.args.machine.now.kept.cache) (g.C.Cache.entries c.add.new.machine.kept.cache) c.add.result c.in-Add.is (c.add.ensures.made image script)
+    of_kind (bare image script c.args.machine.now.frames) (state_of g.C.Cache.entries c.args.machine.now) kinds.Add c.args.choice.now.kind
+    c.args.choice.now.page (g.C.Cache.entries c.args.machine.now.kept.cache) (g.C.Cache.entries c.add.new.machine.kept.cache) c.add.result
+    c.in-Add.is (c.add.ensures.made image script)
 
 -- the rest of the machine stays, and so does whether its cache is exact
 pub returns-in-Drop-clause-exact : goal.returns-in-Drop-clause-exact

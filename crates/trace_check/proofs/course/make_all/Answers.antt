@@ -16,7 +16,8 @@ due_of step now at found same is = subst (λ (k : ℕ). due k at ≡ found) same
 
 pub loop-choice-init : goal.loop-choice-init
 loop-choice-init g c = record {
-  made = λ image script. at_place (bare image script c.args.machine.now.frames) (state_of g.C.Cache.entries c.args.machine.now) c.args.list.now c.args.at (g.C.Cache.entries c.args.machine.now.kept.cache) c.requires.splits.within c.requires.splits.before;
+  made = λ image script. at_place (bare image script c.args.machine.now.frames) (state_of g.C.Cache.entries c.args.machine.now)
+      c.args.list.now c.args.at (g.C.Cache.entries c.args.machine.now.kept.cache) c.requires.splits.within c.requires.splits.before;
   same = refl;
   frames = refl;
   kept = c.requires.kept;
@@ -26,7 +27,9 @@ loop-choice-init g c = record {
 
 pub make-requires-clause-page : goal.make-requires-clause-page
 make-requires-clause-page g c =
-    let there = due_some c.loop-choice.machine.step (slice_get c.args.list.now c.loop-choice.next) c.in-Some.choice (due_of c.step.result c.loop-choice.machine.step (slice_get c.args.list.now c.loop-choice.next) c.due.result c.step.ensures c.due.ensures ∙ c.in-Some.is) in
+    let there = due_some c.loop-choice.machine.step (slice_get c.args.list.now c.loop-choice.next) c.in-Some.choice
+    (due_of c.step.result c.loop-choice.machine.step (slice_get c.args.list.now c.loop-choice.next) c.due.result c.step.ensures
+    c.due.ensures ∙ c.in-Some.is) in
     page_of_next c.args.list.now c.args.machine.now.step c.loop-choice.next c.in-Some.choice c.loop-choice.invariant.so_far there.0
 
 pub loop-choice-preserved : goal.loop-choice-preserved
@@ -35,13 +38,19 @@ loop-choice-preserved g c =
     let m = c.loop-choice.machine in
     let first = c.args.machine.now in
     let choice = c.in-Some.choice in
-    let there = due_some m.step (slice_get c.args.list.now c.loop-choice.next) choice (due_of c.step.result c.loop-choice.machine.step (slice_get c.args.list.now c.loop-choice.next) c.due.result c.step.ensures c.due.ensures ∙ c.in-Some.is) in
+    let there = due_some m.step (slice_get c.args.list.now c.loop-choice.next) choice
+    (due_of c.step.result c.loop-choice.machine.step (slice_get c.args.list.now c.loop-choice.next) c.due.result c.step.ensures
+    c.due.ensures ∙ c.in-Some.is) in
     let at : m.step ≡ first.step = ap (λ (b : State). b.step) c.loop-choice.invariant.same in
     record {
       made = λ image script.
-          let done = subst (IsMade (made (bare image script m.frames) (state_of e m) choice.kind choice.page (e m.kept.cache)) (e c.make.new.machine.kept.cache)) c.if-not-make.false (c.make.ensures.made image script) in
+          let done =
+          subst (IsMade (made (bare image script m.frames) (state_of e m) choice.kind choice.page (e m.kept.cache))
+          (e c.make.new.machine.kept.cache)) c.if-not-make.false (c.make.ensures.made image script) in
           c.loop-choice.invariant.made image script
-          ∙ one_made image script first.frames m.frames (state_of e first) (state_of e m) c.args.list.now c.loop-choice.next choice (e m.kept.cache) (e c.make.new.machine.kept.cache) c.loop-choice.invariant.frames c.loop-choice.invariant.same there.0 (there.1 ∙ at) done;
+          ∙ one_made image script first.frames m.frames (state_of e first) (state_of e m) c.args.list.now c.loop-choice.next choice
+          (e m.kept.cache) (e c.make.new.machine.kept.cache) c.loop-choice.invariant.frames c.loop-choice.invariant.same there.0
+          (there.1 ∙ at) done;
       same = c.make.ensures.same ∙ ap (λ (b : State). with_set b (e c.make.new.machine.kept.cache)) c.loop-choice.invariant.same;
       frames = c.make.ensures.frames ∙ c.loop-choice.invariant.frames;
       kept = c.make.ensures.kept;
@@ -51,7 +60,9 @@ loop-choice-preserved g c =
 
 pub loop-choice-smaller : goal.loop-choice-smaller
 loop-choice-smaller g c =
-    let there = due_some c.loop-choice.machine.step (slice_get c.args.list.now c.loop-choice.next) c.in-Some.choice (due_of c.step.result c.loop-choice.machine.step (slice_get c.args.list.now c.loop-choice.next) c.due.result c.step.ensures c.due.ensures ∙ c.in-Some.is) in
+    let there = due_some c.loop-choice.machine.step (slice_get c.args.list.now c.loop-choice.next) c.in-Some.choice
+    (due_of c.step.result c.loop-choice.machine.step (slice_get c.args.list.now c.loop-choice.next) c.due.result c.step.ensures
+    c.due.ensures ∙ c.in-Some.is) in
     let next = next_is c.args.list.now c.loop-choice.next c.in-Some.choice there.0 in
     omega (arith, next.2)
 
@@ -61,16 +72,23 @@ returns-then-not-make-clause-made g c = λ image script.
     let m = c.loop-choice.machine in
     let first = c.args.machine.now in
     let choice = c.in-Some.choice in
-    let there = due_some m.step (slice_get c.args.list.now c.loop-choice.next) choice (due_of c.step.result c.loop-choice.machine.step (slice_get c.args.list.now c.loop-choice.next) c.due.result c.step.ensures c.due.ensures ∙ c.in-Some.is) in
+    let there = due_some m.step (slice_get c.args.list.now c.loop-choice.next) choice
+    (due_of c.step.result c.loop-choice.machine.step (slice_get c.args.list.now c.loop-choice.next) c.due.result c.step.ensures
+    c.due.ensures ∙ c.in-Some.is) in
     let at : m.step ≡ first.step = ap (λ (b : State). b.step) c.loop-choice.invariant.same in
-    let done = subst (IsMade (made (bare image script m.frames) (state_of e m) choice.kind choice.page (e m.kept.cache)) (e c.make.new.machine.kept.cache)) c.if-not-make.true (c.make.ensures.made image script) in
+    let done =
+    subst (IsMade (made (bare image script m.frames) (state_of e m) choice.kind choice.page (e m.kept.cache))
+    (e c.make.new.machine.kept.cache)) c.if-not-make.true (c.make.ensures.made image script) in
     c.loop-choice.invariant.made image script
-    ∙ none_made image script first.frames m.frames (state_of e first) (state_of e m) c.args.list.now c.loop-choice.next choice (e m.kept.cache) c.loop-choice.invariant.frames c.loop-choice.invariant.same there.0 (there.1 ∙ at) done
+    ∙ none_made image script first.frames m.frames (state_of e first) (state_of e m) c.args.list.now c.loop-choice.next choice
+    (e m.kept.cache) c.loop-choice.invariant.frames c.loop-choice.invariant.same there.0 (there.1 ∙ at) done
 
 pub returns-in-None-clause-splits : goal.returns-in-None-clause-splits
 returns-in-None-clause-splits g c =
     let at : c.loop-choice.machine.step ≡ c.args.machine.now.step = ap (λ (b : State). b.step) c.loop-choice.invariant.same in
-    let none : due c.args.machine.now.step (slice_get c.args.list.now c.loop-choice.next) ≡ None = ap (λ (k : ℕ). due k (slice_get c.args.list.now c.loop-choice.next)) (sym at) ∙ due_of c.step.result c.loop-choice.machine.step (slice_get c.args.list.now c.loop-choice.next) c.due.result c.step.ensures c.due.ensures ∙ c.in-None.is in
+    let none : due c.args.machine.now.step (slice_get c.args.list.now c.loop-choice.next) ≡ None =
+    ap (λ (k : ℕ). due k (slice_get c.args.list.now c.loop-choice.next)) (sym at) ∙ due_of c.step.result c.loop-choice.machine.step
+    (slice_get c.args.list.now c.loop-choice.next) c.due.result c.step.ensures c.due.ensures ∙ c.in-None.is in
     splits_next c.args.list.now c.args.machine.now.step c.loop-choice.next c.loop-choice.invariant.so_far none
 
 pub returns-in-None-clause-made : goal.returns-in-None-clause-made
@@ -79,14 +97,18 @@ returns-in-None-clause-made g c = λ image script.
     let m = c.loop-choice.machine in
     let first = c.args.machine.now in
     let at : m.step ≡ first.step = ap (λ (b : State). b.step) c.loop-choice.invariant.same in
-    let none : due first.step (slice_get c.args.list.now c.loop-choice.next) ≡ None = ap (λ (k : ℕ). due k (slice_get c.args.list.now c.loop-choice.next)) (sym at) ∙ due_of c.step.result c.loop-choice.machine.step (slice_get c.args.list.now c.loop-choice.next) c.due.result c.step.ensures c.due.ensures ∙ c.in-None.is in
+    let none : due first.step (slice_get c.args.list.now c.loop-choice.next) ≡ None =
+    ap (λ (k : ℕ). due k (slice_get c.args.list.now c.loop-choice.next)) (sym at) ∙ due_of c.step.result c.loop-choice.machine.step
+    (slice_get c.args.list.now c.loop-choice.next) c.due.result c.step.ensures c.due.ensures ∙ c.in-None.is in
     let splits = splits_next c.args.list.now first.step c.loop-choice.next c.loop-choice.invariant.so_far none in (
-      c.loop-choice.invariant.made image script ∙ none_due (bare image script first.frames) (state_of e first) _ c.loop-choice.next (e m.kept.cache) splits.from,
+      c.loop-choice.invariant.made image script ∙ none_due (bare image script first.frames) (state_of e first) _ c.loop-choice.next
+          (e m.kept.cache) splits.from,
       c.loop-choice.invariant.same,
     )
 
 pub returns-then-not-make-clause-step : goal.returns-then-not-make-clause-step
-returns-then-not-make-clause-step g c = ap (λ (b : State). b.step) c.make.ensures.same ∙ ap (λ (b : State). b.step) c.loop-choice.invariant.same
+returns-then-not-make-clause-step g c =
+    ap (λ (b : State). b.step) c.make.ensures.same ∙ ap (λ (b : State). b.step) c.loop-choice.invariant.same
 
 pub returns-in-None-clause-step : goal.returns-in-None-clause-step
 returns-in-None-clause-step g c = ap (λ (b : State). b.step) c.loop-choice.invariant.same

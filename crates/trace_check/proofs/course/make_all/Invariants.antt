@@ -10,7 +10,9 @@ use Rattle.trace_check.proofs.course.make_all.Given as goal
 
 abbrev pub invariant-loop-choice : goal.invariant-loop-choice
 invariant-loop-choice g l = record {
-  made : (image : Image) (script : Events) → chosen (bare image script l.fn.machine.frames) (state_of g.C.Cache.entries l.fn.machine) 0 l.list (g.C.Cache.entries l.fn.machine.kept.cache) ≡ chosen (bare image script l.fn.machine.frames) (state_of g.C.Cache.entries l.fn.machine) l.next (drop l.next l.list) (g.C.Cache.entries l.machine.kept.cache);
+  made : (image : Image) (script : Events) → chosen (bare image script l.fn.machine.frames) (state_of g.C.Cache.entries l.fn.machine) 0
+      l.list (g.C.Cache.entries l.fn.machine.kept.cache) ≡ chosen (bare image script l.fn.machine.frames)
+      (state_of g.C.Cache.entries l.fn.machine) l.next (drop l.next l.list) (g.C.Cache.entries l.machine.kept.cache);
   same : state_of g.C.Cache.entries l.machine ≡ with_set (state_of g.C.Cache.entries l.fn.machine) (g.C.Cache.entries l.machine.kept.cache);
   frames : l.machine.frames ≡ l.fn.machine.frames;
   kept : IsKept l.machine.frames (state_of g.C.Cache.entries l.machine);

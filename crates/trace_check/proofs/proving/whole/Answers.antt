@@ -43,8 +43,15 @@ returns-in-Err g c =
     let new = state_of of_roots m c.slice.new.self (g.H.Host.bytes c.slice.new.host) in
     let notes_on = notes_of c.args.notes.now c.slice.new.notes in
     let begins = BeginsEmpty (entries_of (roots.slots r.shadows memory)) (length (free_list c.args.pool.now memory)) r.held true in
-    let h = subst (λ (n : ℕ). SliceAs m n old new before after (g.O.Sink.taken c.args.out.now) (g.O.Sink.taken c.slice.new.out) (pages_kept of_roots r.shadows memory) r.fills c.slice.new.self.fills true notes_on begins (Err c.in-Err.field-0)) is c.in-Err.ensures.slice in
-    record { whole = whole_front c.args.image.now c.args.script.now.list r.frames c.args.n 0 old new before after _ _ (pages_kept of_roots r.shadows memory) r.fills c.slice.new.self.fills true notes_on begins c.in-Err.field-0 _ _ (g.H.Host.bytes c.slice.new.host) c.requires.fits c.requires.first h c.in-Err.ensures.faults.cause }
+    let h =
+    subst (λ (n : ℕ). SliceAs m n old new before after (g.O.Sink.taken c.args.out.now) (g.O.Sink.taken c.slice.new.out)
+    (pages_kept of_roots r.shadows memory) r.fills c.slice.new.self.fills true notes_on begins (Err c.in-Err.field-0)) is
+    c.in-Err.ensures.slice in
+    record {
+      whole = whole_front c.args.image.now c.args.script.now.list r.frames c.args.n 0 old new before after _ _
+          (pages_kept of_roots r.shadows memory) r.fills c.slice.new.self.fills true notes_on begins c.in-Err.field-0 _ _
+          (g.H.Host.bytes c.slice.new.host) c.requires.fits c.requires.first h c.in-Err.ensures.faults.cause;
+    }
 
 pub returns-in-Err-put_end : goal.returns-in-Err-put_end
 returns-in-Err-put_end g c =
@@ -61,10 +68,20 @@ returns-in-Err-put_end g c =
     let new = state_of of_roots m c.slice.new.self memory2 in
     let notes_on = notes_of c.args.notes.now c.slice.new.notes in
     let begins = BeginsEmpty (entries_of (roots.slots r.shadows memory)) (length (free_list c.args.pool.now memory)) r.held true in
-    let h = subst (λ (n : ℕ). SliceAs m n old new before after (g.O.Sink.taken c.args.out.now) (g.O.Sink.taken c.slice.new.out) (pages_kept of_roots r.shadows memory) r.fills c.slice.new.self.fills true notes_on begins (Ok pause)) is c.in-Ok.ensures.slice in
-    let put = subst (λ (k : ℕ). AppendsFront (g.O.Sink.taken c.slice.new.out) (g.O.Sink.taken c.put_end.new.out) (end_line k (end_of pause))) c.step.ensures
-    (subst (λ (x : End). AppendsFront (g.O.Sink.taken c.slice.new.out) (g.O.Sink.taken c.put_end.new.out) (end_line c.step.result x)) c.end_of.ensures c.in-Err-put_end.ensures.failed) in
-    record { whole = whole_unput c.kept_on.ensures.before c.args.image.now c.args.script.now.list r.frames c.args.n 0 old new before after _ _ _ (pages_kept of_roots r.shadows memory) r.fills c.slice.new.self.fills true notes_on begins pause _ (g.O.Sink.faults c.slice.new.out) _ memory2 c.requires.fits c.requires.first c.in-Ok.ensures.own.memory h put c.in-Ok.ensures.faults.kept c.in-Err-put_end.ensures.cause }
+    let h =
+    subst (λ (n : ℕ). SliceAs m n old new before after (g.O.Sink.taken c.args.out.now) (g.O.Sink.taken c.slice.new.out)
+    (pages_kept of_roots r.shadows memory) r.fills c.slice.new.self.fills true notes_on begins (Ok pause)) is c.in-Ok.ensures.slice in
+    let put =
+    subst (λ (k : ℕ). AppendsFront (g.O.Sink.taken c.slice.new.out) (g.O.Sink.taken c.put_end.new.out) (end_line k (end_of pause)))
+    c.step.ensures
+    (subst (λ (x : End). AppendsFront (g.O.Sink.taken c.slice.new.out) (g.O.Sink.taken c.put_end.new.out) (end_line c.step.result x))
+    c.end_of.ensures c.in-Err-put_end.ensures.failed) in
+    record {
+      whole = whole_unput c.kept_on.ensures.before c.args.image.now c.args.script.now.list r.frames c.args.n 0 old new before after _
+          _ _ (pages_kept of_roots r.shadows memory) r.fills c.slice.new.self.fills true notes_on begins pause _
+          (g.O.Sink.faults c.slice.new.out) _ memory2 c.requires.fits c.requires.first c.in-Ok.ensures.own.memory h put
+          c.in-Ok.ensures.faults.kept c.in-Err-put_end.ensures.cause;
+    }
 
 pub returns-in-Ok-put_end : goal.returns-in-Ok-put_end
 returns-in-Ok-put_end g c =
@@ -83,15 +100,27 @@ returns-in-Ok-put_end g c =
     let new = state_of of_roots m c.slice.new.self memory2 in
     let notes_on = notes_of c.args.notes.now c.slice.new.notes in
     let begins = BeginsEmpty (entries_of (roots.slots r.shadows memory)) (length (free_list c.args.pool.now memory)) r.held true in
-    let h = subst (λ (n : ℕ). SliceAs m n old new before after (g.O.Sink.taken c.args.out.now) (g.O.Sink.taken c.slice.new.out) (pages_kept of_roots r.shadows memory) r.fills c.slice.new.self.fills true notes_on begins (Ok pause)) is c.in-Ok.ensures.slice in
-    let put = subst (λ (k : ℕ). Appends (g.O.Sink.taken c.slice.new.out) (g.O.Sink.taken c.put_end.new.out) (end_line k (end_of pause))) c.step.ensures
-    (subst (λ (x : End). Appends (g.O.Sink.taken c.slice.new.out) (g.O.Sink.taken c.put_end.new.out) (end_line c.step.result x)) c.end_of.ensures c.in-Ok-put_end.ensures.ok) in
-    let done = noted_put image script r.frames c.args.n old new before after _ _ _ (pages_kept of_roots r.shadows memory) r.fills c.slice.new.self.fills c.args.notes.now c.slice.new.notes begins pause _ (g.O.Sink.faults c.slice.new.out) _ memory2
-    c.notes_are_judged.ensures.judged c.notes_are_judged.ensures.form c.requires.bound c.requires.untold c.requires.fits c.requires.first c.requires.none c.requires.unfilled c.in-Ok.ensures.leaves.few c.in-Ok.ensures.own.memory
-    (guest_held pause image script r.frames c.slice.new.self c.slice.new.pool memory2 c.in-Ok.ensures.leaves.held) h put c.in-Ok.ensures.faults.kept c.in-Ok-put_end.ensures.kept in
-    let here = around_of (g.O.Sink.taken c.args.out.now) (g.O.Sink.taken c.put_end.new.out) (g.O.Sink.faults c.args.out.now) (g.O.Sink.faults c.put_end.new.out) before after in
+    let h =
+    subst (λ (n : ℕ). SliceAs m n old new before after (g.O.Sink.taken c.args.out.now) (g.O.Sink.taken c.slice.new.out)
+    (pages_kept of_roots r.shadows memory) r.fills c.slice.new.self.fills true notes_on begins (Ok pause)) is c.in-Ok.ensures.slice in
+    let put = subst (λ (k : ℕ). Appends (g.O.Sink.taken c.slice.new.out) (g.O.Sink.taken c.put_end.new.out) (end_line k (end_of pause)))
+    c.step.ensures
+    (subst (λ (x : End). Appends (g.O.Sink.taken c.slice.new.out) (g.O.Sink.taken c.put_end.new.out) (end_line c.step.result x))
+    c.end_of.ensures c.in-Ok-put_end.ensures.ok) in
+    let done = noted_put image script r.frames c.args.n old new before after _ _ _ (pages_kept of_roots r.shadows memory) r.fills
+    c.slice.new.self.fills c.args.notes.now c.slice.new.notes begins pause _ (g.O.Sink.faults c.slice.new.out) _ memory2
+    c.notes_are_judged.ensures.judged c.notes_are_judged.ensures.form c.requires.bound c.requires.untold c.requires.fits c.requires.first
+    c.requires.none c.requires.unfilled c.in-Ok.ensures.leaves.few c.in-Ok.ensures.own.memory
+    (guest_held pause image script r.frames c.slice.new.self c.slice.new.pool memory2 c.in-Ok.ensures.leaves.held) h put
+    c.in-Ok.ensures.faults.kept c.in-Ok-put_end.ensures.kept in
+    let here = around_of (g.O.Sink.taken c.args.out.now) (g.O.Sink.taken c.put_end.new.out) (g.O.Sink.faults c.args.out.now)
+    (g.O.Sink.faults c.put_end.new.out) before after in
     record {
-      whole = subst (λ (k : ℕ). NotedAnswers image script r.frames c.args.n c.slice.new.notes here memory2 (Ok (record { steps = k; end = c.end_of.result; fills = c.fills.result }))) (sym c.step.ensures)
-          (subst (λ (x : End). NotedAnswers image script r.frames c.args.n c.slice.new.notes here memory2 (Ok (record { steps = c.slice.new.self.step; end = x; fills = c.fills.result }))) (sym c.end_of.ensures)
-          (subst (λ (k : ℕ). NotedAnswers image script r.frames c.args.n c.slice.new.notes here memory2 (Ok (record { steps = c.slice.new.self.step; end = end_of pause; fills = k }))) (sym c.fills.ensures) done));
+      whole =
+          subst (λ (k : ℕ). NotedAnswers image script r.frames c.args.n c.slice.new.notes here memory2
+          (Ok (record { steps = k; end = c.end_of.result; fills = c.fills.result }))) (sym c.step.ensures)
+          (subst (λ (x : End). NotedAnswers image script r.frames c.args.n c.slice.new.notes here memory2
+          (Ok (record { steps = c.slice.new.self.step; end = x; fills = c.fills.result }))) (sym c.end_of.ensures)
+          (subst (λ (k : ℕ). NotedAnswers image script r.frames c.args.n c.slice.new.notes here memory2
+          (Ok (record { steps = c.slice.new.self.step; end = end_of pause; fills = k }))) (sym c.fills.ensures) done));
     }

@@ -13,5 +13,7 @@ pub returns : goal.returns
 returns c =
     let line = c.args.line.now in
     let whole = end_line c.args.steps (Stopped c.args.stop) in
-    let known = put_from line whole c.new-out.result c.put_end.new.out c.put_end.result c.new-out.ensures c.put_end.ensures.ok c.put_end.ensures.failed c.put_end.ensures.cause c.difference.ensures.matched in
-    turned (is_some c.difference.result) c.is_none.result c.is_none.ensures ∙ agrees line whole c.put_end.new.out c.difference.result known c.difference.ensures.difference
+    let known = put_from line whole c.new-out.result c.put_end.new.out c.put_end.result c.new-out.ensures c.put_end.ensures.ok
+    c.put_end.ensures.failed c.put_end.ensures.cause c.difference.ensures.matched in
+    turned (is_some c.difference.result) c.is_none.result c.is_none.ensures ∙ agrees line whole c.put_end.new.out c.difference.result known
+    c.difference.ensures.difference

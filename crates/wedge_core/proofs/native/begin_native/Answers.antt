@@ -38,7 +38,8 @@ pub try_once-requires-clause-ready : goal.try_once-requires-clause-ready
 try_once-requires-clause-ready g c =
     let running = c.args.running.now in
     let mid = c.make_room.new.running in
-    subst (λ (k : ℕ). IsReady g.S.Shadows (ground c.args.image.now k) mid.cpu mid.shadows c.make_room.new.ram) (sym (ap (λ (r : Running g.row.S.Denot). r.frames) c.make_room.ensures.same))
+    subst (λ (k : ℕ). IsReady g.S.Shadows (ground c.args.image.now k) mid.cpu mid.shadows c.make_room.new.ram)
+    (sym (ap (λ (r : Running g.row.S.Denot). r.frames) c.make_room.ensures.same))
     (c.make_room.ensures.beside.ready (ground c.args.image.now running.frames) refl c.requires.between.ready)
 
 -- ---- what the run knows goes on
@@ -66,7 +67,8 @@ module _ (g : Over) (c : goal.After-try_once g) where
   ram1 = c.make_room.new.ram
 
   abbrev mid : Running g.row.S.Denot
-  mid = record running { shadows = c.make_room.new.running.shadows; held = c.make_room.new.running.held; lost = c.make_room.new.running.lost }
+  mid =
+      record running { shadows = c.make_room.new.running.shadows; held = c.make_room.new.running.held; lost = c.make_room.new.running.lost }
 
   module _ (script : Events) where
     abbrev m : Setting
@@ -91,12 +93,14 @@ module _ (g : Over) (c : goal.After-try_once g) where
     by_there : (t : Taken) → t.set ≡ left_of c.try_once.new.running.lost.before b.set → t.set ≡ d.set
     by_there t by = by ∙ (ap (λ (x : Bool). left_of x b.set) c.try_once.ensures.tries.before ∙ sym c.make_room.ensures.left)
 
-    module _ (steps : List Taken) (t : Taken) (free : length (free_list c.args.pool.now ram0) + running.held ≡ 512) (roomy : Roomy (steps ++ t ∷ []))
+    module _ (steps : List Taken) (t : Taken) (free : length (free_list c.args.pool.now ram0) + running.held ≡ 512)
+        (roomy : Roomy (steps ++ t ∷ []))
         (carried : IsCarried g.S.Shadows m steps t.before running.shadows ram0)
       where
         room : 8 ≤ length (free_list c.args.pool.now ram0)
         room =
-            let size = g.met.S.Reloads.sized running.shadows ram0 (λ index. is_member eqb (indices_in steps) index) (indices_in steps) c.requires.between.held.stand carried.opened_to (λ index lt is. is) in
+            let size = g.met.S.Reloads.sized running.shadows ram0 (λ index. is_member eqb (indices_in steps) index) (indices_in steps)
+            c.requires.between.held.stand carried.opened_to (λ index lt is. is) in
             let few = c.known_laws.ensures.few steps (c.known_laws.ensures.before steps t roomy) in
             let counted = c.requires.between.held.counted in
             omega (arith, size, few, counted, free)
@@ -110,7 +114,8 @@ module _ (g : Over) (c : goal.After-try_once g) where
 
         carried_there : IsCarriedBy g.S.Shadows m steps t.before (entries_of (g.S.Shadows.slots running.shadows ram0)) mid.shadows ram1
         carried_there = record {
-          known = c.known_laws.ensures.still m steps t.before (sight g.S.Shadows running.shadows ram0) (sight g.S.Shadows mid.shadows ram1) (entries_of (g.S.Shadows.slots running.shadows ram0)) (c.make_room.ensures.stay room) carried.known;
+          known = c.known_laws.ensures.still m steps t.before (sight g.S.Shadows running.shadows ram0) (sight g.S.Shadows mid.shadows ram1)
+              (entries_of (g.S.Shadows.slots running.shadows ram0)) (c.make_room.ensures.stay room) carried.known;
           opened_to = c.make_room.ensures.beside.has_tables_under (λ index. is_member eqb (indices_in steps) index) carried.opened_to;
         }
 
@@ -123,29 +128,42 @@ module _ (g : Over) (c : goal.After-try_once g) where
   abbrev IsTaken : Running g.row.S.Denot → Events → List Taken → Taken → Type 0 → Type 0
   IsTaken r script steps t fact =
       c.args.notes_wanted ≡ false → length (free_list c.make_room.new.pool ram1) + r.held ≡ 512 → Roomy (steps ++ t ∷ [])
-      → IsTakenFrom (wedge image script r.frames) (state_of g.S.Shadows (wedge image script r.frames) r ram1) t → t.set ≡ set_of g.S.Shadows r ram1 → fact
+      → IsTakenFrom (wedge image script r.frames) (state_of g.S.Shadows (wedge image script r.frames) r ram1) t
+      → t.set ≡ set_of g.S.Shadows r ram1 → fact
 
-  tried : WhereStepped c.try_once.result ((script : Events) (steps : List Taken) (t : Taken) → IsTaken mid script steps t (Carries mid script steps t))
-  tried = subst (λ (r : Running g.row.S.Denot). WhereStepped c.try_once.result ((script : Events) (steps : List Taken) (t : Taken) → IsTaken r script steps t (Carries r script steps t))) c.make_room.ensures.same c.try_once.ensures.tries.carried
+  tried : WhereStepped c.try_once.result
+      ((script : Events) (steps : List Taken) (t : Taken) → IsTaken mid script steps t (Carries mid script steps t))
+  tried =
+      subst (λ (r : Running g.row.S.Denot). WhereStepped c.try_once.result
+      ((script : Events) (steps : List Taken) (t : Taken) → IsTaken r script steps t (Carries r script steps t))) c.make_room.ensures.same
+      c.try_once.ensures.tries.carried
 
   abbrev Does : Running g.row.S.Denot → Taken → Type 0 → Type 0
   Does r t fact =
       is_load t.report.completed ≡ false → (t.after.cpu.cr0 ≡ r.cpu.cr0) × (t.after.cpu.cr3 ≡ r.cpu.cr3) × (t.after.cpu.cr4 ≡ r.cpu.cr4)
-      → t.after.set ≡ set_of g.S.Shadows c.try_once.new.running c.try_once.new.ram → 4096 * r.frames ≤ length t.after.ram → AreBytes t.after.ram → fact
+      → t.after.set ≡ set_of g.S.Shadows c.try_once.new.running c.try_once.new.ram → 4096 * r.frames ≤ length t.after.ram
+      → AreBytes t.after.ram → fact
 
-  asked : WhereAsked c.try_once.result ((script : Events) (steps : List Taken) (t : Taken) → IsTaken mid script steps t (Does mid t (Carries mid script steps t)))
-  asked = subst (λ (r : Running g.row.S.Denot). WhereAsked c.try_once.result ((script : Events) (steps : List Taken) (t : Taken) → IsTaken r script steps t (Does r t (Carries r script steps t)))) c.make_room.ensures.same c.try_once.ensures.tries.carried_asked
+  asked : WhereAsked c.try_once.result
+      ((script : Events) (steps : List Taken) (t : Taken) → IsTaken mid script steps t (Does mid t (Carries mid script steps t)))
+  asked =
+      subst (λ (r : Running g.row.S.Denot). WhereAsked c.try_once.result
+      ((script : Events) (steps : List Taken) (t : Taken) → IsTaken r script steps t (Does r t (Carries r script steps t))))
+      c.make_room.ensures.same c.try_once.ensures.tries.carried_asked
 
 -- ---- what a try asks for
 
 pub try_once-requires-clause-held : goal.try_once-requires-clause-held
-try_once-requires-clause-held g c = subst (λ (k : ℕ). IsHeld g.S.Shadows (ground c.args.image.now k) c.make_room.new.running c.make_room.new.pool c.make_room.new.ram) (sym (ap (λ (r : Running g.row.S.Denot). r.frames) c.make_room.ensures.same)) c.make_room.ensures.held
+try_once-requires-clause-held g c =
+    subst (λ (k : ℕ). IsHeld g.S.Shadows (ground c.args.image.now k) c.make_room.new.running c.make_room.new.pool c.make_room.new.ram)
+    (sym (ap (λ (r : Running g.row.S.Denot). r.frames) c.make_room.ensures.same)) c.make_room.ensures.held
 
 pub try_once-requires-clause-able : goal.try_once-requires-clause-able
 try_once-requires-clause-able g c = subst (λ (r : Running g.row.S.Denot). IsAble r.cpu) (sym c.make_room.ensures.same) c.requires.able
 
 pub try_once-requires-clause-runs : goal.try_once-requires-clause-runs
-try_once-requires-clause-runs g c = subst (λ (r : Running g.row.S.Denot). may_run r.cpu r.board c.args.image.now ≡ true) (sym c.make_room.ensures.same) c.requires.runs
+try_once-requires-clause-runs g c =
+    subst (λ (r : Running g.row.S.Denot). may_run r.cpu r.board c.args.image.now ≡ true) (sym c.make_room.ensures.same) c.requires.runs
 
 pub try_once-requires-clause-bound : goal.try_once-requires-clause-bound
 try_once-requires-clause-bound g c = subst (λ (r : Running g.row.S.Denot). r.step < 2 ^ 40) (sym c.make_room.ensures.same) c.requires.bound
@@ -154,7 +172,10 @@ pub try_once-requires-clause-room : goal.try_once-requires-clause-room
 try_once-requires-clause-room g c = c.make_room.ensures.room
 
 pub try_once-requires-clause-clear : goal.try_once-requires-clause-clear
-try_once-requires-clause-clear g c = λ script. subst (λ (k : ℕ). IsClear (wedge c.args.image.now script k) (state_of g.S.Shadows (wedge c.args.image.now script k) c.make_room.new.running c.make_room.new.ram)) (sym (ap (λ (r : Running g.row.S.Denot). r.frames) c.make_room.ensures.same)) (c.make_room.ensures.clear script)
+try_once-requires-clause-clear g c =
+    λ script. subst (λ (k : ℕ). IsClear (wedge c.args.image.now script k)
+    (state_of g.S.Shadows (wedge c.args.image.now script k) c.make_room.new.running c.make_room.new.ram))
+    (sym (ap (λ (r : Running g.row.S.Denot). r.frames) c.make_room.ensures.same)) (c.make_room.ensures.clear script)
 
 pub try_once-requires-clause-kept : goal.try_once-requires-clause-kept
 try_once-requires-clause-kept g c = c.make_room.ensures.beside.reloaded ∙ c.requires.kept.1
@@ -177,39 +198,55 @@ returns-clause-attempts g c = record {
       let d = state_of g.S.Shadows m here ram1 in
       let view = view_by (g.S.Shadows.directory new.shadows) running.cpu in
       let after = state_of g.S.Shadows m new ram2 in
-      let tried = subst (λ (r : Running g.row.S.Denot). AttemptAs (wedge image script r.frames) (view_by (g.S.Shadows.directory new.shadows) r.cpu)
+      let tried =
+      subst (λ (r : Running g.row.S.Denot). AttemptAs (wedge image script r.frames) (view_by (g.S.Shadows.directory new.shadows) r.cpu)
       (state_of g.S.Shadows (wedge image script r.frames) r ram1) false new.lost c.try_once.result
       (state_of g.S.Shadows (wedge image script r.frames) new ram2) ram2) c.make_room.ensures.same (c.try_once.ensures.tries.step script) in
       let is : d ≡ with_set b d.set = λ i. record b { ram = shown_same m ram0 ram1 c.make_room.ensures.beside.guest i; set = d.set } in
-      let left : d.set ≡ left_of new.lost.before b.set = c.make_room.ensures.left ∙ ap (λ (x : Bool). left_of x b.set) (sym c.try_once.ensures.tries.before) in
+      let left : d.set ≡ left_of new.lost.before b.set =
+      c.make_room.ensures.left ∙ ap (λ (x : Bool). left_of x b.set) (sym c.try_once.ensures.tries.before) in
       attempt_before m view b d new.lost.before new.lost c.try_once.result after ram2 is left tried;
   carried =
       where_stepped c.try_once.result
       (λ f script steps t unwanted free roomy taken by carried.
-      f script steps t unwanted (free_there g c script steps t free roomy carried) roomy (taken_there g c script t taken) (by_there g c script t by) (entries_of (g.S.Shadows.slots c.args.running.now.shadows c.args.ram.now)) (carried_there g c script steps t free roomy carried))
+      f script steps t unwanted (free_there g c script steps t free roomy carried) roomy (taken_there g c script t taken)
+      (by_there g c script t by) (entries_of (g.S.Shadows.slots c.args.running.now.shadows c.args.ram.now))
+      (carried_there g c script steps t free roomy carried))
       (tried g c);
   carried_asked =
       where_asked c.try_once.result
       (λ f script steps t unwanted free roomy taken by load rules set long bytes carried.
-      f script steps t unwanted (free_there g c script steps t free roomy carried) roomy (taken_there g c script t taken) (by_there g c script t by) load rules set long bytes (entries_of (g.S.Shadows.slots c.args.running.now.shadows c.args.ram.now))
+      f script steps t unwanted (free_there g c script steps t free roomy carried) roomy (taken_there g c script t taken)
+      (by_there g c script t by) load rules set long bytes (entries_of (g.S.Shadows.slots c.args.running.now.shadows c.args.ram.now))
       (carried_there g c script steps t free roomy carried))
       (asked g c);
   clashed = λ lost room. c.make_room.ensures.clashed (sym c.try_once.ensures.tries.before ∙ lost) room;
   leaves = record {
     held =
-        let new = c.try_once.new.running in subst (λ (r : Running g.row.S.Denot). OnOk c.try_once.result (IsHeld g.S.Shadows (ground c.args.image.now r.frames) (record new { step = r.step + 1 }) c.try_once.new.pool c.try_once.new.ram)) c.make_room.ensures.same c.try_once.ensures.tries.leaves.held;
+        let new = c.try_once.new.running in
+        subst (λ (r : Running g.row.S.Denot). OnOk c.try_once.result
+        (IsHeld g.S.Shadows (ground c.args.image.now r.frames) (record new { step = r.step + 1 }) c.try_once.new.pool c.try_once.new.ram))
+        c.make_room.ensures.same c.try_once.ensures.tries.leaves.held;
     ready =
         let new = c.try_once.new.running in
-        subst (λ (r : Running g.row.S.Denot). OnOk c.try_once.result (IsReady g.S.Shadows (ground c.args.image.now r.frames) new.cpu new.shadows c.try_once.new.ram)) c.make_room.ensures.same
+        subst (λ (r : Running g.row.S.Denot). OnOk c.try_once.result
+        (IsReady g.S.Shadows (ground c.args.image.now r.frames) new.cpu new.shadows c.try_once.new.ram)) c.make_room.ensures.same
         c.try_once.ensures.tries.leaves.ready;
     reloaded = c.try_once.ensures.tries.leaves.reloaded;
-    count = subst (λ (r : Running g.row.S.Denot). WhereStepped c.try_once.result (c.try_once.new.running.step ≡ r.step + 1)) c.make_room.ensures.same c.try_once.ensures.tries.leaves.count;
+    count = subst (λ (r : Running g.row.S.Denot). WhereStepped c.try_once.result (c.try_once.new.running.step ≡ r.step + 1))
+        c.make_room.ensures.same c.try_once.ensures.tries.leaves.count;
     asked =
-        let new = c.try_once.new.running in subst (λ (r : Running g.row.S.Denot). WhereAsked c.try_once.result (new ≡ record r { shadows = new.shadows; held = new.held; fills = new.fills; lost = new.lost })) c.make_room.ensures.same c.try_once.ensures.tries.leaves.asked;
+        let new = c.try_once.new.running in
+        subst (λ (r : Running g.row.S.Denot). WhereAsked c.try_once.result
+        (new ≡ record r { shadows = new.shadows; held = new.held; fills = new.fills; lost = new.lost })) c.make_room.ensures.same
+        c.try_once.ensures.tries.leaves.asked;
     stays =
         let same = c.make_room.ensures.same in
-        stays_from c.try_once.result (scene c.args.running.now c.args.pool.now c.args.ram.now) (scene c.make_room.new.running c.make_room.new.pool c.make_room.new.ram) (scene c.try_once.new.running c.try_once.new.pool c.try_once.new.ram)
-        (ap (λ (r : Running g.row.S.Denot). r.step) same) (ap (λ (r : Running g.row.S.Denot). r.fills) same) c.try_once.ensures.tries.leaves.stays;
+        stays_from c.try_once.result (scene c.args.running.now c.args.pool.now c.args.ram.now)
+        (scene c.make_room.new.running c.make_room.new.pool c.make_room.new.ram)
+        (scene c.try_once.new.running c.try_once.new.pool c.try_once.new.ram)
+        (ap (λ (r : Running g.row.S.Denot). r.step) same) (ap (λ (r : Running g.row.S.Denot). r.fills) same)
+        c.try_once.ensures.tries.leaves.stays;
   };
 }
 
@@ -222,12 +259,14 @@ returns-clause-accounts g c = record {
       let gs = g.S.Shadows.frames c.make_room.new.running.shadows c.make_room.new.ram in
       let hs = g.S.Shadows.frames c.try_once.new.running.shadows c.try_once.new.ram in
       keeps_join c.args.pool.now c.make_room.new.pool c.try_once.new.pool c.args.ram.now c.make_room.new.ram c.try_once.new.ram fs gs hs
-      (keeps_moves c.args.pool.now c.make_room.new.pool c.args.ram.now c.make_room.new.ram fs gs c.make_room.ensures.moves) c.try_once.ensures.accounts.pool;
+      (keeps_moves c.args.pool.now c.make_room.new.pool c.args.ram.now c.make_room.new.ram fs gs c.make_room.ensures.moves)
+      c.try_once.ensures.accounts.pool;
   filled =
       let running = c.args.running.now in
       let new = c.try_once.new.running in
       let same = ap (λ (r : Running g.row.S.Denot). r.fills) c.make_room.ensures.same in
       fills_join _ _ _ running.fills running.fills new.fills (fills_fewer _ _ running.fills c.make_room.ensures.beside.fewer)
-      (subst (λ (k : ℕ). CountsFills (pages_kept g.S.Shadows c.make_room.new.running.shadows c.make_room.new.ram) (pages_kept g.S.Shadows new.shadows c.try_once.new.ram) k new.fills) same c.try_once.ensures.accounts.filled);
+      (subst (λ (k : ℕ). CountsFills (pages_kept g.S.Shadows c.make_room.new.running.shadows c.make_room.new.ram)
+      (pages_kept g.S.Shadows new.shadows c.try_once.new.ram) k new.fills) same c.try_once.ensures.accounts.filled);
   frames = c.try_once.ensures.accounts.frames ∙ ap (λ (r : Running g.row.S.Denot). r.frames) c.make_room.ensures.same;
 }

@@ -14,9 +14,11 @@ invariant-loop-index g l = record {
   stale : g.S.Shadows.stale l.shadows ≡ g.S.Shadows.stale l.fn.shadows;
   cr3 : g.S.Shadows.cr3 l.shadows ≡ g.S.Shadows.cr3 l.fn.shadows;
   other_roots : AreSame (g.S.Shadows.other_roots l.fn.shadows l.fn.ram) (g.S.Shadows.other_roots l.shadows l.ram);
-  has_tables_under : (indices : ℕ → Bool) → g.S.Shadows.has_tables_under l.fn.shadows l.fn.ram indices → g.S.Shadows.has_tables_under l.shadows l.ram indices;
+  has_tables_under : (indices : ℕ → Bool) → g.S.Shadows.has_tables_under l.fn.shadows l.fn.ram indices
+      → g.S.Shadows.has_tables_under l.shadows l.ram indices;
   frames : g.S.Shadows.frames l.shadows l.ram ≡ g.S.Shadows.frames l.fn.shadows l.fn.ram;
-  moves : (p : Pool) → Owns p l.fn.ram (g.S.Shadows.frames l.fn.shadows l.fn.ram) → Moves p p l.fn.ram l.ram (g.S.Shadows.frames l.fn.shadows l.fn.ram) (g.S.Shadows.frames l.shadows l.ram);
+  moves : (p : Pool) → Owns p l.fn.ram (g.S.Shadows.frames l.fn.shadows l.fn.ram)
+      → Moves p p l.fn.ram l.ram (g.S.Shadows.frames l.fn.shadows l.fn.ram) (g.S.Shadows.frames l.shadows l.ram);
 }
 
 abbrev pub decreases-loop-index : goal.decreases-loop-index

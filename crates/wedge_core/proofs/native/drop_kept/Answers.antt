@@ -14,7 +14,8 @@ all_but_two : (free frames before held after : ℕ) → free + frames ≡ before
 all_but_two free frames before held after lengths counted two = omega (arith, lengths, counted, two)
 
 pub overflow_add-free : goal.overflow_add-free
-overflow_add-free g c = let held = c.requires.held.1 in let fit = all_fit _ _ _ _ (c.free.ensures.count c.args.ram.now) held.counted held.few in omega (arith, fit)
+overflow_add-free g c = let held =
+    c.requires.held.1 in let fit = all_fit _ _ _ _ (c.free.ensures.count c.args.ram.now) held.counted held.few in omega (arith, fit)
 
 pub returns-clause-none : goal.returns-clause-none
 returns-clause-none g c = c.drop_all.ensures.entries
@@ -28,7 +29,8 @@ returns-clause-moves g c = c.drop_all.ensures.moves
 pub returns-clause-beside : goal.returns-clause-beside
 returns-clause-beside g c = record {
   ready = λ m frames h.
-      none_ready g.S.Shadows (λ page. false) m c.args.running.now.cpu c.drop_all.new.self c.drop_all.new.ram (c.drop_all.ensures.known.cr3 ∙ h.cr3_is) c.drop_all.ensures.none c.drop_all.ensures.other_roots;
+      none_ready g.S.Shadows (λ page. false) m c.args.running.now.cpu c.drop_all.new.self c.drop_all.new.ram
+      (c.drop_all.ensures.known.cr3 ∙ h.cr3_is) c.drop_all.ensures.none c.drop_all.ensures.other_roots;
   reloaded = refl;
   has_tables_under = c.drop_all.ensures.has_tables_under;
   fewer =
@@ -36,7 +38,8 @@ returns-clause-beside g c = record {
       omega (arith, none);
   guest =
       let held = c.requires.held.1 in
-      front_same c.args.running.now.frames c.args.pool.now c.drop_all.new.pool c.args.ram.now c.drop_all.new.ram _ _ held.behind held.owns c.drop_all.ensures.moves;
+      front_same c.args.running.now.frames c.args.pool.now c.drop_all.new.pool c.args.ram.now c.drop_all.new.ram _ _ held.behind held.owns
+      c.drop_all.ensures.moves;
 }
 
 pub returns-clause-held : goal.returns-clause-held
@@ -64,6 +67,8 @@ returns-clause-held g c = λ image held.
       counted = omega (arith, counted, before, after, lengths);
       few = omega (arith, few, lengths);
       fills = held.fills;
-      within = part_within n _ empty (part_empty _ empty c.drop_all.ensures.entries) (λ page e is. absurd (Rattle.wedge_step.proofs.Bools.none_some e (sym (Rattle.std.specs.FinMap.get-empty Rattle.std.specs.Ordering.nat_cmp page) ∙ is)));
+      within = part_within n _ empty (part_empty _ empty c.drop_all.ensures.entries)
+          (λ page e is. absurd (Rattle.wedge_step.proofs.Bools.none_some e
+          (sym (Rattle.std.specs.FinMap.get-empty Rattle.std.specs.Ordering.nat_cmp page) ∙ is)));
       open_to = none_open image (wp_of c.args.running.now.cpu) _ c.drop_all.ensures.none;
     }

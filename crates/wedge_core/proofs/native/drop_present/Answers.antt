@@ -22,8 +22,10 @@ returns-clause-beside g c = λ any. record {
       let held = c.requires.held.2 in
       let d = c.drop_dirs in
       let low = held.behind in
-      let front = front_same m.frames pool pool c.args.ram.now d.new.ram _ _ (omega (arith, frames, low)) held.owns (d.ensures.moves pool held.owns) in
-      fewer_ready g.S.Shadows (λ page. false) (λ page. false) m running.cpu running.shadows d.new.shadows c.args.ram.now d.new.ram d.ensures.cr3
+      let front = front_same m.frames pool pool c.args.ram.now d.new.ram _ _ (omega (arith, frames, low)) held.owns
+      (d.ensures.moves pool held.owns) in
+      fewer_ready g.S.Shadows (λ page. false) (λ page. false) m running.cpu running.shadows d.new.shadows c.args.ram.now
+      d.new.ram d.ensures.cr3
       (λ un. sym d.ensures.stale ∙ un) (λ f n. d.ensures.read_from f ∙ n)
       (λ page lt o. inl (d.ensures.none page lt))
       (same_shed _ _ d.ensures.other_roots) (shown_same m c.args.ram.now d.new.ram front) h;
@@ -33,7 +35,8 @@ returns-clause-beside g c = λ any. record {
   guest =
       let pool = c.requires.held.1 in
       let held = c.requires.held.2 in
-      front_same c.args.running.now.frames pool pool c.args.ram.now c.drop_dirs.new.ram _ _ held.behind held.owns (c.drop_dirs.ensures.moves pool held.owns);
+      front_same c.args.running.now.frames pool pool c.args.ram.now c.drop_dirs.new.ram _ _ held.behind held.owns
+      (c.drop_dirs.ensures.moves pool held.owns);
 }
 
 pub returns-clause-stay : goal.returns-clause-stay
@@ -66,6 +69,8 @@ returns-clause-held g c = λ pool image held.
       counted = held.counted ∙ ap length (sym d.ensures.frames);
       few = omega (arith, few, lengths);
       fills = held.fills;
-      within = part_within n _ empty (part_empty _ empty d.ensures.entries) (λ page e is. absurd (Rattle.wedge_step.proofs.Bools.none_some e (sym (Rattle.std.specs.FinMap.get-empty Rattle.std.specs.Ordering.nat_cmp page) ∙ is)));
+      within = part_within n _ empty (part_empty _ empty d.ensures.entries)
+          (λ page e is. absurd (Rattle.wedge_step.proofs.Bools.none_some e
+          (sym (Rattle.std.specs.FinMap.get-empty Rattle.std.specs.Ordering.nat_cmp page) ∙ is)));
       open_to = none_open image (wp_of c.args.running.now.cpu) _ d.ensures.none;
     }

@@ -25,11 +25,16 @@ returns-in-Err g c =
     let after = g.M.GuestMem.space c.refuse.new.mem in
     let is = sym c.gone.ensures in
     record {
-      uses = subst (λ (r : Result (Option Worked) Stop). IfOk r (λ _. Uses (c.args.cpu.now.cpl == 3) before after)) is (if_gone (Uses (c.args.cpu.now.cpl == 3) before after) c.refuse.result (c.refuse.ensures.goes_on before c.in-Err.ensures.refused));
+      uses = subst (λ (r : Result (Option Worked) Stop). IfOk r (λ _. Uses (c.args.cpu.now.cpl == 3) before after)) is
+          (if_gone (Uses (c.args.cpu.now.cpl == 3) before after) c.refuse.result
+          (c.refuse.ensures.goes_on before c.in-Err.ensures.refused));
       prepares = λ m b k. let here = record b { cpu = c.args.cpu.now } in
           subst (λ (r : Result (Option Worked) Stop). PreparesAs m here c.args.insn.now c.args.len before r after) is
-          (prepares_refused m here c.args.insn.now c.args.len before c.requires.able c.requires.native c.requires.spelled c.in-Err.refusal refused c.refuse.result after c.in-Err.ensures.prepared (c.refuse.ensures.step m here k));
-      dropped = subst (λ (r : Result (Option Worked) Stop). IfOk r (λ o. IfSome o (λ w. IsDropped w.dropped))) is (of_gone (λ (w : Worked). IsDropped w.dropped) c.refuse.result c.refuse.ensures.dropped);
-      roots = subst (λ (r : Result (Option Worked) Stop). IfOk r (λ o. IfSome o (λ w. RootsAs c.args.cpu.now w))) is (of_gone (λ (w : Worked). RootsAs c.args.cpu.now w) c.refuse.result c.refuse.ensures.roots);
+          (prepares_refused m here c.args.insn.now c.args.len before c.requires.able c.requires.native c.requires.spelled c.in-Err.refusal
+          refused c.refuse.result after c.in-Err.ensures.prepared (c.refuse.ensures.step m here k));
+      dropped = subst (λ (r : Result (Option Worked) Stop). IfOk r (λ o. IfSome o (λ w. IsDropped w.dropped))) is
+          (of_gone (λ (w : Worked). IsDropped w.dropped) c.refuse.result c.refuse.ensures.dropped);
+      roots = subst (λ (r : Result (Option Worked) Stop). IfOk r (λ o. IfSome o (λ w. RootsAs c.args.cpu.now w))) is
+          (of_gone (λ (w : Worked). RootsAs c.args.cpu.now w) c.refuse.result c.refuse.ensures.roots);
       frame = c.refuse.ensures.frame ∙ c.weigh.ensures.frame;
     }

@@ -14,7 +14,8 @@ pub returns-then-k-gt0-clause-passes : goal.returns-then-k-gt0-clause-passes
 returns-then-k-gt0-clause-passes g c = λ image memory counts.
     let running = c.args.running.now in
     let m = wedge image c.args.script.now.list running.frames in
-    rw c.advance.ensures (rests_some c.halted_steps_rest.ensures c.resting_steps-k.result m (state_of g.S.Shadows m running memory) counts c.requires.begun c.resting_steps-k.ensures.held c.resting_steps-k.ensures.sleeps)
+    rw c.advance.ensures (rests_some c.halted_steps_rest.ensures c.resting_steps-k.result m (state_of g.S.Shadows m running memory) counts
+    c.requires.begun c.resting_steps-k.ensures.held c.resting_steps-k.ensures.sleeps)
 
 pub returns-else-k-gt0-clause-furthest : goal.returns-else-k-gt0-clause-furthest
 returns-else-k-gt0-clause-furthest g c = λ halted held none less.

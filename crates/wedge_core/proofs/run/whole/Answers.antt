@@ -34,7 +34,8 @@ module _ (g : Over) where
   abbrev empty_in : Pool → Running Roots → List ℕ → Type 0
   empty_in pool r memory = BeginsEmpty (entries_of (roots.slots r.shadows memory)) (length (free_list pool memory)) r.held false
 
-  begins_in : (m : Setting) (pool : Pool) (r : Running Roots) (memory : List ℕ) → state_of of_roots m r memory ≡ boot m → r.held ≡ 2 → pool_in pool r memory ≡ 512 → empty_in pool r memory
+  begins_in : (m : Setting) (pool : Pool) (r : Running Roots) (memory : List ℕ) → state_of of_roots m r memory ≡ boot m → r.held ≡ 2
+      → pool_in pool r memory ≡ 512 → empty_in pool r memory
   begins_in m pool r memory first two all = record { empty_set = ap (λ (b : State). b.set) first; two = two; others = all; silent = refl }
 
 pub slice-requires-clause-bound : goal.slice-requires-clause-bound
@@ -56,8 +57,15 @@ returns-in-Err g c =
     let after : Counts = record { retired = g.H.Host.retired c.slice.new.host; passed = g.H.Host.passed c.slice.new.host } in
     let old = state_of of_roots m c.args.guest.now (g.H.Host.bytes c.args.host.now) in
     let new = state_of of_roots m c.slice.new.self (g.H.Host.bytes c.slice.new.host) in
-    let h = subst (λ (n : ℕ). SliceAs m n old new before after (g.O.Sink.taken c.args.out.now) (g.O.Sink.taken c.slice.new.out) pages fills filled false no_notes (empty_in g c.args.pool.now c.args.guest.now (g.H.Host.bytes c.args.host.now)) (Err c.in-Err.field-0)) is c.in-Err.ensures.slice in
-    record { whole = whole_front c.args.image.now c.args.script.now.list f c.args.n (pool_in g c.args.pool.now c.args.guest.now (g.H.Host.bytes c.args.host.now)) old new before after _ _ pages fills filled false no_notes (empty_in g c.args.pool.now c.args.guest.now (g.H.Host.bytes c.args.host.now)) c.in-Err.field-0 _ _ (g.H.Host.bytes c.slice.new.host) c.requires.fits c.requires.first h c.in-Err.ensures.faults.cause }
+    let h = subst (λ (n : ℕ). SliceAs m n old new before after (g.O.Sink.taken c.args.out.now) (g.O.Sink.taken c.slice.new.out) pages fills
+    filled false no_notes (empty_in g c.args.pool.now c.args.guest.now (g.H.Host.bytes c.args.host.now)) (Err c.in-Err.field-0)) is
+    c.in-Err.ensures.slice in
+    record {
+      whole = whole_front c.args.image.now c.args.script.now.list f c.args.n
+          (pool_in g c.args.pool.now c.args.guest.now (g.H.Host.bytes c.args.host.now)) old new before after _ _ pages fills filled false
+          no_notes (empty_in g c.args.pool.now c.args.guest.now (g.H.Host.bytes c.args.host.now)) c.in-Err.field-0 _ _
+          (g.H.Host.bytes c.slice.new.host) c.requires.fits c.requires.first h c.in-Err.ensures.faults.cause;
+    }
 
 pub returns-in-Err-put_end : goal.returns-in-Err-put_end
 returns-in-Err-put_end g c =
@@ -76,11 +84,21 @@ returns-in-Err-put_end g c =
     let after : Counts = record { retired = g.H.Host.retired c.slice.new.host; passed = g.H.Host.passed c.slice.new.host } in
     let old = state_of of_roots m c.args.guest.now (g.H.Host.bytes c.args.host.now) in
     let new = state_of of_roots m c.slice.new.self memory in
-    let h = subst (λ (n : ℕ). SliceAs m n old new before after (g.O.Sink.taken c.args.out.now) (g.O.Sink.taken c.slice.new.out) pages fills filled false no_notes (empty_in g c.args.pool.now c.args.guest.now (g.H.Host.bytes c.args.host.now)) (Ok pause)) is c.in-Ok.ensures.slice in
+    let h = subst (λ (n : ℕ). SliceAs m n old new before after (g.O.Sink.taken c.args.out.now) (g.O.Sink.taken c.slice.new.out) pages fills
+    filled false no_notes (empty_in g c.args.pool.now c.args.guest.now (g.H.Host.bytes c.args.host.now)) (Ok pause)) is
+    c.in-Ok.ensures.slice in
     let has = front_held pause image script f c.slice.new.self c.slice.new.pool memory c.in-Ok.ensures.leaves.held in
-    let put = subst (λ (k : ℕ). AppendsFront (g.O.Sink.taken c.slice.new.out) (g.O.Sink.taken c.put_end.new.out) (end_line k (end_of pause))) c.step.ensures
-    (subst (λ (x : End). AppendsFront (g.O.Sink.taken c.slice.new.out) (g.O.Sink.taken c.put_end.new.out) (end_line c.step.result x)) c.end_of.ensures c.in-Err-put_end.ensures.failed) in
-    record { whole = whole_unput c.kept_on.ensures.before image script f c.args.n (pool_in g c.args.pool.now c.args.guest.now (g.H.Host.bytes c.args.host.now)) old new before after _ _ _ pages fills filled false no_notes (empty_in g c.args.pool.now c.args.guest.now (g.H.Host.bytes c.args.host.now)) pause _ (g.O.Sink.faults c.slice.new.out) _ memory c.requires.fits c.requires.first has h put c.in-Ok.ensures.faults.kept c.in-Err-put_end.ensures.cause }
+    let put =
+    subst (λ (k : ℕ). AppendsFront (g.O.Sink.taken c.slice.new.out) (g.O.Sink.taken c.put_end.new.out) (end_line k (end_of pause)))
+    c.step.ensures
+    (subst (λ (x : End). AppendsFront (g.O.Sink.taken c.slice.new.out) (g.O.Sink.taken c.put_end.new.out) (end_line c.step.result x))
+    c.end_of.ensures c.in-Err-put_end.ensures.failed) in
+    record {
+      whole = whole_unput c.kept_on.ensures.before image script f c.args.n
+          (pool_in g c.args.pool.now c.args.guest.now (g.H.Host.bytes c.args.host.now)) old new before after _ _ _ pages fills filled false
+          no_notes (empty_in g c.args.pool.now c.args.guest.now (g.H.Host.bytes c.args.host.now)) pause _ (g.O.Sink.faults c.slice.new.out)
+          _ memory c.requires.fits c.requires.first has h put c.in-Ok.ensures.faults.kept c.in-Err-put_end.ensures.cause;
+    }
 
 pub returns-in-Ok-put_end : goal.returns-in-Ok-put_end
 returns-in-Ok-put_end g c =
@@ -99,13 +117,34 @@ returns-in-Ok-put_end g c =
     let after : Counts = record { retired = g.H.Host.retired c.slice.new.host; passed = g.H.Host.passed c.slice.new.host } in
     let old = state_of of_roots m c.args.guest.now (g.H.Host.bytes c.args.host.now) in
     let new = state_of of_roots m c.slice.new.self memory in
-    let h = subst (λ (n : ℕ). SliceAs m n old new before after (g.O.Sink.taken c.args.out.now) (g.O.Sink.taken c.slice.new.out) pages fills filled false no_notes (empty_in g c.args.pool.now c.args.guest.now (g.H.Host.bytes c.args.host.now)) (Ok pause)) is c.in-Ok.ensures.slice in
+    let h = subst (λ (n : ℕ). SliceAs m n old new before after (g.O.Sink.taken c.args.out.now) (g.O.Sink.taken c.slice.new.out) pages fills
+    filled false no_notes (empty_in g c.args.pool.now c.args.guest.now (g.H.Host.bytes c.args.host.now)) (Ok pause)) is
+    c.in-Ok.ensures.slice in
     let has = front_held pause image script f c.slice.new.self c.slice.new.pool memory c.in-Ok.ensures.leaves.held in
-    let put = subst (λ (k : ℕ). Appends (g.O.Sink.taken c.slice.new.out) (g.O.Sink.taken c.put_end.new.out) (end_line k (end_of pause))) c.step.ensures
-    (subst (λ (x : End). Appends (g.O.Sink.taken c.slice.new.out) (g.O.Sink.taken c.put_end.new.out) (end_line c.step.result x)) c.end_of.ensures c.in-Ok-put_end.ensures.ok) in
-    let done = whole_put c.kept_on.ensures.before image script f c.args.n (pool_in g c.args.pool.now c.args.guest.now (g.H.Host.bytes c.args.host.now)) old new before after _ _ _ pages fills filled false no_notes (empty_in g c.args.pool.now c.args.guest.now (g.H.Host.bytes c.args.host.now)) pause _ (g.O.Sink.faults c.slice.new.out) _ memory c.requires.fits c.requires.first (begins_in g m c.args.pool.now c.args.guest.now (g.H.Host.bytes c.args.host.now) c.requires.first c.requires.two) c.requires.none c.requires.unfilled c.in-Ok.ensures.leaves.few has (guest_held pause image script f c.slice.new.self c.slice.new.pool memory c.in-Ok.ensures.leaves.held) h put c.in-Ok.ensures.faults.kept c.in-Ok-put_end.ensures.kept in
+    let put = subst (λ (k : ℕ). Appends (g.O.Sink.taken c.slice.new.out) (g.O.Sink.taken c.put_end.new.out) (end_line k (end_of pause)))
+    c.step.ensures
+    (subst (λ (x : End). Appends (g.O.Sink.taken c.slice.new.out) (g.O.Sink.taken c.put_end.new.out) (end_line c.step.result x))
+    c.end_of.ensures c.in-Ok-put_end.ensures.ok) in
+    let done = whole_put c.kept_on.ensures.before image script f c.args.n
+    (pool_in g c.args.pool.now c.args.guest.now (g.H.Host.bytes c.args.host.now)) old new before after _ _ _ pages fills filled false
+    no_notes (empty_in g c.args.pool.now c.args.guest.now (g.H.Host.bytes c.args.host.now)) pause _ (g.O.Sink.faults c.slice.new.out) _
+    memory c.requires.fits c.requires.first
+    (begins_in g m c.args.pool.now c.args.guest.now (g.H.Host.bytes c.args.host.now) c.requires.first c.requires.two) c.requires.none
+    c.requires.unfilled c.in-Ok.ensures.leaves.few has
+    (guest_held pause image script f c.slice.new.self c.slice.new.pool memory c.in-Ok.ensures.leaves.held) h put c.in-Ok.ensures.faults.kept
+    c.in-Ok-put_end.ensures.kept in
     record {
-      whole = subst (λ (k : ℕ). WedgeAnswers image script f c.args.n (pool_in g c.args.pool.now c.args.guest.now (g.H.Host.bytes c.args.host.now)) (g.O.Sink.taken c.args.out.now) (g.O.Sink.taken c.put_end.new.out) (g.O.Sink.faults c.args.out.now) (g.O.Sink.faults c.put_end.new.out) before after memory (Ok (record { steps = k; end = c.end_of.result; fills = c.fills.result }))) (sym c.step.ensures)
-          (subst (λ (x : End). WedgeAnswers image script f c.args.n (pool_in g c.args.pool.now c.args.guest.now (g.H.Host.bytes c.args.host.now)) (g.O.Sink.taken c.args.out.now) (g.O.Sink.taken c.put_end.new.out) (g.O.Sink.faults c.args.out.now) (g.O.Sink.faults c.put_end.new.out) before after memory (Ok (record { steps = c.slice.new.self.step; end = x; fills = c.fills.result }))) (sym c.end_of.ensures)
-          (subst (λ (k : ℕ). WedgeAnswers image script f c.args.n (pool_in g c.args.pool.now c.args.guest.now (g.H.Host.bytes c.args.host.now)) (g.O.Sink.taken c.args.out.now) (g.O.Sink.taken c.put_end.new.out) (g.O.Sink.faults c.args.out.now) (g.O.Sink.faults c.put_end.new.out) before after memory (Ok (record { steps = c.slice.new.self.step; end = end_of pause; fills = k }))) (sym c.fills.ensures) done));
+      whole =
+          subst (λ (k : ℕ). WedgeAnswers image script f c.args.n
+          (pool_in g c.args.pool.now c.args.guest.now (g.H.Host.bytes c.args.host.now)) (g.O.Sink.taken c.args.out.now)
+          (g.O.Sink.taken c.put_end.new.out) (g.O.Sink.faults c.args.out.now) (g.O.Sink.faults c.put_end.new.out) before after memory
+          (Ok (record { steps = k; end = c.end_of.result; fills = c.fills.result }))) (sym c.step.ensures)
+          (subst (λ (x : End). WedgeAnswers image script f c.args.n
+          (pool_in g c.args.pool.now c.args.guest.now (g.H.Host.bytes c.args.host.now)) (g.O.Sink.taken c.args.out.now)
+          (g.O.Sink.taken c.put_end.new.out) (g.O.Sink.faults c.args.out.now) (g.O.Sink.faults c.put_end.new.out) before after memory
+          (Ok (record { steps = c.slice.new.self.step; end = x; fills = c.fills.result }))) (sym c.end_of.ensures)
+          (subst (λ (k : ℕ). WedgeAnswers image script f c.args.n
+          (pool_in g c.args.pool.now c.args.guest.now (g.H.Host.bytes c.args.host.now)) (g.O.Sink.taken c.args.out.now)
+          (g.O.Sink.taken c.put_end.new.out) (g.O.Sink.faults c.args.out.now) (g.O.Sink.faults c.put_end.new.out) before after memory
+          (Ok (record { steps = c.slice.new.self.step; end = end_of pause; fills = k }))) (sym c.fills.ensures) done));
     }

@@ -71,13 +71,15 @@ still_few fills step filled then few same still = omega (arith, few, same, still
 falls : (old mid done bound : ℕ) → mid ≡ old + done → 0 < done → old < bound → bound - mid < bound - old
 falls old mid done bound h some lt = omega (arith, h, some, lt)
 
-room_past : (retired then old mid done bound limit : ℕ) → then ≡ retired + done → mid ≡ old + done → mid ≤ bound → retired + (bound - old) < limit → then + (bound - mid) < limit
+room_past : (retired then old mid done bound limit : ℕ) → then ≡ retired + done → mid ≡ old + done → mid ≤ bound → retired
+    + (bound - old) < limit → then + (bound - mid) < limit
 room_past retired then old mid done bound limit e n k h = omega (arith, e, n, k, h)
 
 still_below : (old mid done bound limit : ℕ) → mid ≡ old + done → done ≤ 0 → old < bound → bound ≤ limit → mid < limit
 still_below old mid done bound limit n none lt b = omega (arith, n, none, lt, b)
 
-room_for_one : (retired then old done bound limit : ℕ) → retired + (bound - old) < limit → old < bound → then ≡ retired + done → done ≤ 0 → then + 1 < limit
+room_for_one : (retired then old done bound limit : ℕ) → retired + (bound - old) < limit → old < bound → then ≡ retired + done
+    → done ≤ 0 → then + 1 < limit
 room_for_one retired then old done bound limit h lt e none = omega (arith, h, lt, e, none)
 
 -- and the one step after it
@@ -87,17 +89,22 @@ begun mid new h = omega (arith, h)
 one_within : (old mid new done bound : ℕ) → new ≡ mid + 1 → mid ≡ old + done → done ≤ 0 → old < bound → new ≤ bound
 one_within old mid new done bound e n none lt = omega (arith, e, n, none, lt)
 
-falls_then : (old mid new rested done bound : ℕ) → new ≤ rested → new ≡ mid + 1 → mid ≡ old + done → done ≤ 0 → old < bound → bound - rested < bound - old
+falls_then : (old mid new rested done bound : ℕ) → new ≤ rested → new ≡ mid + 1 → mid ≡ old + done → done ≤ 0 → old < bound
+    → bound - rested < bound - old
 falls_then old mid new rested done bound l e n none lt = omega (arith, l, e, n, none, lt)
 
-room_then : (retired then last old mid new rested done bound limit : ℕ) → retired + (bound - old) < limit → old < bound → last ≤ then + 1 → then ≡ retired + done → done ≡ 0 → new ≡ mid + 1 → mid ≡ old → new ≤ rested → rested ≤ bound
+room_then : (retired then last old mid new rested done bound limit : ℕ) → retired + (bound - old) < limit → old < bound → last ≤ then + 1
+    → then ≡ retired + done → done ≡ 0 → new ≡ mid + 1 → mid ≡ old → new ≤ rested → rested ≤ bound
     → last + (bound - rested) < limit
-room_then retired then last old mid new rested done bound limit h lt few e none n same l w = omega (arith, h, lt, few, e, none, n, same, l, w)
+room_then retired then last old mid new rested done bound limit h lt few e none n same l w =
+    omega (arith, h, lt, few, e, none, n, same, l, w)
 
 -- the pages of what is kept present are some of all
 module _ (g : Over) where
-  few : (r : Running g.row.S.Denot) (memory : List ℕ) (pages before after : ℕ) → CountsFills pages (pages_kept g.S.Shadows r.shadows memory) before after → CountsFills pages (len (entries_of (g.S.Shadows.slots r.shadows memory))) before after
-  few r memory pages before after f = fills_within pages (len (entries_of (g.S.Shadows.slots r.shadows memory))) (pages_kept g.S.Shadows r.shadows memory) before after (some_of _ _) f
+  few : (r : Running g.row.S.Denot) (memory : List ℕ) (pages before after : ℕ) → CountsFills pages (pages_kept g.S.Shadows r.shadows memory)
+      before after → CountsFills pages (len (entries_of (g.S.Shadows.slots r.shadows memory))) before after
+  few r memory pages before after f = fills_within pages (len (entries_of (g.S.Shadows.slots r.shadows memory)))
+      (pages_kept g.S.Shadows r.shadows memory) before after (some_of _ _) f
 
   -- how the slice begins, where its sets keep the rule
   abbrev Begun : Image → Events → ℕ → Running g.row.S.Denot → List ℕ → Pool → Bool → Type 0
@@ -109,32 +116,46 @@ module _ (g : Over) where
   Knows m r memory kept steps b = CarriedWith g.S.Shadows m r.shadows memory kept steps b
 
   widens : Widens g.S.Shadows
-  widens = record { same_other_roots = g.met.S.Shadows.same_other_roots; same_tables_under = g.met.S.Shadows.same_tables_under; wider = g.met.S.Shadows.wider; sized = g.met.S.Reloads.sized }
+  widens = record {
+    same_other_roots = g.met.S.Shadows.same_other_roots;
+    same_tables_under = g.met.S.Shadows.same_tables_under;
+    wider = g.met.S.Shadows.wider;
+    sized = g.met.S.Reloads.sized;
+  }
 
   known_past : CarryLaws → (m : Setting) (r : Running g.row.S.Denot) (memory : List ℕ) → CarriesPast m (Knows m r memory)
   known_past laws m r memory = carries_past g.S.Shadows widens laws m r.shadows memory
 
-  known_there : CarryLaws → (m : Setting) (r mid : Running g.row.S.Denot) (memory then : List ℕ) (kept : Set) → mid.shadows ≡ r.shadows → ∥ g.S.Shadows.stands r.shadows memory ∥₁
-      → SameIn (g.S.Shadows.frames r.shadows memory) memory then → (steps : List Taken) (b : State) → Knows m r memory kept steps b → Knows m mid then kept steps b
+  known_there : CarryLaws → (m : Setting) (r mid : Running g.row.S.Denot) (memory then : List ℕ) (kept : Set) → mid.shadows ≡ r.shadows
+      → ∥ g.S.Shadows.stands r.shadows memory ∥₁
+      → SameIn (g.S.Shadows.frames r.shadows memory) memory then → (steps : List Taken) (b : State) → Knows m r memory kept steps b
+      → Knows m mid then kept steps b
   known_there laws m r mid memory then kept is stand same steps b =
       carried_there g.S.Shadows widens laws m r.shadows mid.shadows memory then kept steps b is stand same
 
-  ready_at : (image : Image) (f n : ℕ) (cpu : Cpu) (s : g.row.S.Denot) (memory : List ℕ) → f ≡ n → IsReady g.S.Shadows (ground image f) cpu s memory → IsReady g.S.Shadows (ground image n) cpu s memory
+  ready_at : (image : Image) (f n : ℕ) (cpu : Cpu) (s : g.row.S.Denot) (memory : List ℕ) → f ≡ n
+      → IsReady g.S.Shadows (ground image f) cpu s memory → IsReady g.S.Shadows (ground image n) cpu s memory
   ready_at image f n cpu s memory is h = subst (λ (k : ℕ). IsReady g.S.Shadows (ground image k) cpu s memory) is h
 
 pub loop-running-init : goal.loop-running-init
 loop-running-init g c =
     let m = wedge c.args.image.now c.args.script.now.list c.args.running.now.frames in
     record {
-      going = going_none m (state_of g.S.Shadows m c.args.running.now (g.H.Host.bytes c.args.host.now)) (counted (g.H.Host.retired c.args.host.now) (g.H.Host.passed c.args.host.now)) (g.O.Sink.taken c.args.out.now) (pages_kept g.S.Shadows c.args.running.now.shadows (g.H.Host.bytes c.args.host.now)) c.args.running.now.fills (g.L.Notes.wants c.args.notes.now)
-          (NotesOn (g.L.Notes.wants c.args.notes.now) (g.L.Notes.tells c.args.notes.now) (g.L.Notes.tells c.args.notes.now)) (Begun g c.args.image.now c.args.script.now.list c.args.running.now.frames c.args.running.now (g.H.Host.bytes c.args.host.now) c.args.pool.now (g.L.Notes.wants c.args.notes.now)) (Knows g m c.args.running.now (g.H.Host.bytes c.args.host.now))
+      going = going_none m (state_of g.S.Shadows m c.args.running.now (g.H.Host.bytes c.args.host.now))
+          (counted (g.H.Host.retired c.args.host.now) (g.H.Host.passed c.args.host.now)) (g.O.Sink.taken c.args.out.now)
+          (pages_kept g.S.Shadows c.args.running.now.shadows (g.H.Host.bytes c.args.host.now)) c.args.running.now.fills
+          (g.L.Notes.wants c.args.notes.now)
+          (NotesOn (g.L.Notes.wants c.args.notes.now) (g.L.Notes.tells c.args.notes.now) (g.L.Notes.tells c.args.notes.now))
+          (Begun g c.args.image.now c.args.script.now.list c.args.running.now.frames c.args.running.now (g.H.Host.bytes c.args.host.now)
+          c.args.pool.now (g.L.Notes.wants c.args.notes.now)) (Knows g m c.args.running.now (g.H.Host.bytes c.args.host.now))
           (notes_on_none (g.L.Notes.wants c.args.notes.now) (g.L.Notes.tells c.args.notes.now)) (some_of _ _)
           (λ s. with_kept g.S.Shadows m c.args.running.now.shadows (g.H.Host.bytes c.args.host.now) []
           (state_of g.S.Shadows m c.args.running.now (g.H.Host.bytes c.args.host.now)) s.0);
       held = c.requires.between.held;
       ready = c.requires.between.ready;
       able = c.requires.able;
-      pool = keeps_same c.args.pool.now (g.H.Host.bytes c.args.host.now) (g.S.Shadows.frames c.args.running.now.shadows (g.H.Host.bytes c.args.host.now));
+      pool = keeps_same c.args.pool.now (g.H.Host.bytes c.args.host.now)
+          (g.S.Shadows.frames c.args.running.now.shadows (g.H.Host.bytes c.args.host.now));
       filled = fills_same _ _ c.args.running.now.fills refl;
       started = c.requires.started;
       frames = refl;
@@ -147,13 +168,18 @@ loop-running-init g c =
     }
 
 pub stretch-requires-clause-held : goal.stretch-requires-clause-held
-stretch-requires-clause-held g c = (c.loop-running.pool, held_given g.S.Shadows c.args.image.now c.args.running.now.frames c.loop-running.running.frames c.loop-running.running c.begin.new.self c.loop-running.pool (g.H.Host.bytes c.loop-running.host) c.loop-running.invariant.frames c.loop-running.invariant.held)
+stretch-requires-clause-held g c = (
+  c.loop-running.pool,
+  held_given g.S.Shadows c.args.image.now c.args.running.now.frames c.loop-running.running.frames c.loop-running.running c.begin.new.self
+      c.loop-running.pool (g.H.Host.bytes c.loop-running.host) c.loop-running.invariant.frames c.loop-running.invariant.held,
+)
 
 pub loop-running-preserved-then-stretch-gt0 : goal.loop-running-preserved-then-stretch-gt0
 loop-running-preserved-then-stretch-gt0 g c =
     let f = c.args.running.now.frames in
     let m = wedge c.args.image.now c.args.script.now.list f in
-    let at = λ (n : ℕ) (r : Running g.row.S.Denot) (memory : List ℕ). state_of g.S.Shadows (wedge c.args.image.now c.args.script.now.list n) r memory in
+    let at = λ (n : ℕ) (r : Running g.row.S.Denot) (memory : List ℕ). state_of g.S.Shadows
+    (wedge c.args.image.now c.args.script.now.list n) r memory in
     let old = at f c.args.running.now (g.H.Host.bytes c.args.host.now) in
     let counts = counted (g.H.Host.retired c.args.host.now) (g.H.Host.passed c.args.host.now) in
     let r = c.loop-running.running in
@@ -165,23 +191,43 @@ loop-running-preserved-then-stretch-gt0 g c =
     let mid = c.stretch.new.running in
     let then_memory = g.H.Host.bytes c.stretch.new.host in
     let mid_counts = counted (g.H.Host.retired c.stretch.new.host) (g.H.Host.passed c.stretch.new.host) in
-    let passes = subst (λ (n : ℕ). Passes (wedge c.args.image.now c.args.script.now.list n) (at n r memory) (at n mid then_memory) so_far mid_counts) inv.frames
+    let passes = subst (λ (n : ℕ). Passes (wedge c.args.image.now c.args.script.now.list n) (at n r memory) (at n mid then_memory) so_far
+    mid_counts) inv.frames
     (c.stretch.ensures.goes.passes c.if-stretch-gt0.true r.board (sym c.begin.ensures)) in
     let on = NotesOn (g.L.Notes.wants c.args.notes.now) (g.L.Notes.tells c.args.notes.now) (g.L.Notes.tells c.loop-running.notes) in
     let laws = c.carry_laws.ensures in
-    let begins = Begun g c.args.image.now c.args.script.now.list c.args.running.now.frames c.args.running.now (g.H.Host.bytes c.args.host.now) c.args.pool.now (g.L.Notes.wants c.args.notes.now) in
+    let begins = Begun g c.args.image.now c.args.script.now.list c.args.running.now.frames c.args.running.now
+    (g.H.Host.bytes c.args.host.now) c.args.pool.now (g.L.Notes.wants c.args.notes.now) in
     record {
-      going = going_turned m old (at f mid then_memory) counts mid_counts told tells (pages_kept g.S.Shadows c.args.running.now.shadows (g.H.Host.bytes c.args.host.now)) c.args.running.now.fills mid.fills (g.L.Notes.wants c.args.notes.now) on begins (Knows g m r memory) (Knows g m mid then_memory)
-          (known_there g laws m r mid memory then_memory (entries_of (g.S.Shadows.slots mid.shadows then_memory)) c.stretch.ensures.leaves.kept inv.held.stand c.stretch.ensures.leaves.apart)
-          (going_past m old (at f r memory) (at f mid then_memory) counts so_far mid_counts told tells (pages_kept g.S.Shadows c.args.running.now.shadows (g.H.Host.bytes c.args.host.now)) c.args.running.now.fills r.fills mid.fills (g.L.Notes.wants c.args.notes.now) on begins (Knows g m r memory) inv.going c.stretch.ensures.leaves.filled.rises
-          (few g mid then_memory _ _ _ (fills_join _ _ _ _ _ _ inv.filled c.stretch.ensures.leaves.filled)) laws (known_past g laws m r memory)
+      going = going_turned m old (at f mid then_memory) counts mid_counts told tells
+          (pages_kept g.S.Shadows c.args.running.now.shadows (g.H.Host.bytes c.args.host.now)) c.args.running.now.fills mid.fills
+          (g.L.Notes.wants c.args.notes.now) on begins (Knows g m r memory) (Knows g m mid then_memory)
+          (known_there g laws m r mid memory then_memory (entries_of (g.S.Shadows.slots mid.shadows then_memory))
+          c.stretch.ensures.leaves.kept inv.held.stand c.stretch.ensures.leaves.apart)
+          (going_past m old (at f r memory) (at f mid then_memory) counts so_far mid_counts told tells
+          (pages_kept g.S.Shadows c.args.running.now.shadows (g.H.Host.bytes c.args.host.now)) c.args.running.now.fills r.fills mid.fills
+          (g.L.Notes.wants c.args.notes.now) on begins (Knows g m r memory) inv.going c.stretch.ensures.leaves.filled.rises
+          (few g mid then_memory _ _ _ (fills_join _ _ _ _ _ _ inv.filled c.stretch.ensures.leaves.filled)) laws
+          (known_past g laws m r memory)
           (room_at g.S.Shadows c.args.image.now c.args.script.now.list f r c.loop-running.pool memory inv.held) passes);
-      held = held_at g.S.Shadows c.args.image.now r.frames f mid c.loop-running.pool then_memory inv.frames (c.stretch.ensures.leaves.held c.loop-running.pool (held_given g.S.Shadows c.args.image.now c.args.running.now.frames c.loop-running.running.frames c.loop-running.running c.begin.new.self c.loop-running.pool (g.H.Host.bytes c.loop-running.host) c.loop-running.invariant.frames c.loop-running.invariant.held));
-      ready = ready_at g c.args.image.now r.frames f mid.cpu mid.shadows then_memory inv.frames (c.stretch.ensures.leaves.ready (ready_at g c.args.image.now f r.frames r.cpu r.shadows memory (sym inv.frames) inv.ready));
+      held = held_at g.S.Shadows c.args.image.now r.frames f mid c.loop-running.pool then_memory inv.frames
+          (c.stretch.ensures.leaves.held c.loop-running.pool
+          (held_given g.S.Shadows c.args.image.now c.args.running.now.frames c.loop-running.running.frames c.loop-running.running
+          c.begin.new.self c.loop-running.pool (g.H.Host.bytes c.loop-running.host) c.loop-running.invariant.frames
+          c.loop-running.invariant.held));
+      ready = ready_at g c.args.image.now r.frames f mid.cpu mid.shadows then_memory inv.frames
+          (c.stretch.ensures.leaves.ready (ready_at g c.args.image.now f r.frames r.cpu r.shadows memory (sym inv.frames) inv.ready));
       able = c.stretch.ensures.leaves.able;
-      pool = keeps_join c.args.pool.now c.loop-running.pool c.loop-running.pool (g.H.Host.bytes c.args.host.now) (g.H.Host.bytes c.loop-running.host) (g.H.Host.bytes c.stretch.new.host)
-          (g.S.Shadows.frames c.args.running.now.shadows (g.H.Host.bytes c.args.host.now)) (g.S.Shadows.frames c.loop-running.running.shadows (g.H.Host.bytes c.loop-running.host)) (g.S.Shadows.frames c.stretch.new.running.shadows (g.H.Host.bytes c.stretch.new.host))
-          c.loop-running.invariant.pool (c.stretch.ensures.leaves.pool c.loop-running.pool (held_given g.S.Shadows c.args.image.now c.args.running.now.frames c.loop-running.running.frames c.loop-running.running c.begin.new.self c.loop-running.pool (g.H.Host.bytes c.loop-running.host) c.loop-running.invariant.frames c.loop-running.invariant.held));
+      pool = keeps_join c.args.pool.now c.loop-running.pool c.loop-running.pool (g.H.Host.bytes c.args.host.now)
+          (g.H.Host.bytes c.loop-running.host) (g.H.Host.bytes c.stretch.new.host)
+          (g.S.Shadows.frames c.args.running.now.shadows (g.H.Host.bytes c.args.host.now))
+          (g.S.Shadows.frames c.loop-running.running.shadows (g.H.Host.bytes c.loop-running.host))
+          (g.S.Shadows.frames c.stretch.new.running.shadows (g.H.Host.bytes c.stretch.new.host))
+          c.loop-running.invariant.pool
+          (c.stretch.ensures.leaves.pool c.loop-running.pool
+          (held_given g.S.Shadows c.args.image.now c.args.running.now.frames c.loop-running.running.frames c.loop-running.running
+          c.begin.new.self c.loop-running.pool (g.H.Host.bytes c.loop-running.host) c.loop-running.invariant.frames
+          c.loop-running.invariant.held));
       filled = fills_join _ _ _ _ _ _ inv.filled c.stretch.ensures.leaves.filled;
       started = c.stretch.ensures.started;
       frames = c.stretch.ensures.leaves.frames ∙ inv.frames;
@@ -196,29 +242,49 @@ loop-running-preserved-then-stretch-gt0 g c =
 pub one_step-requires-clause-between : goal.one_step-requires-clause-between
 one_step-requires-clause-between g c = record {
   held =
-      held_at g.S.Shadows c.args.image.now c.loop-running.running.frames c.stretch.new.running.frames c.stretch.new.running c.loop-running.pool (g.H.Host.bytes c.stretch.new.host) (sym c.stretch.ensures.leaves.frames)
-      (c.stretch.ensures.leaves.held c.loop-running.pool (held_given g.S.Shadows c.args.image.now c.args.running.now.frames c.loop-running.running.frames c.loop-running.running c.begin.new.self c.loop-running.pool (g.H.Host.bytes c.loop-running.host) c.loop-running.invariant.frames c.loop-running.invariant.held));
+      held_at g.S.Shadows c.args.image.now c.loop-running.running.frames c.stretch.new.running.frames c.stretch.new.running
+      c.loop-running.pool (g.H.Host.bytes c.stretch.new.host) (sym c.stretch.ensures.leaves.frames)
+      (c.stretch.ensures.leaves.held c.loop-running.pool
+      (held_given g.S.Shadows c.args.image.now c.args.running.now.frames c.loop-running.running.frames c.loop-running.running
+      c.begin.new.self c.loop-running.pool (g.H.Host.bytes c.loop-running.host) c.loop-running.invariant.frames
+      c.loop-running.invariant.held));
   ready =
       let f = c.args.running.now.frames in
       let r = c.loop-running.running in
       let mid = c.stretch.new.running in
       let inv = c.loop-running.invariant in
-      ready_at g c.args.image.now r.frames mid.frames mid.cpu mid.shadows (g.H.Host.bytes c.stretch.new.host) (sym c.stretch.ensures.leaves.frames)
-      (c.stretch.ensures.leaves.ready (ready_at g c.args.image.now f r.frames r.cpu r.shadows (g.H.Host.bytes c.loop-running.host) (sym inv.frames) inv.ready));
+      ready_at g c.args.image.now r.frames mid.frames mid.cpu mid.shadows (g.H.Host.bytes c.stretch.new.host)
+      (sym c.stretch.ensures.leaves.frames)
+      (c.stretch.ensures.leaves.ready (ready_at g c.args.image.now f r.frames r.cpu r.shadows (g.H.Host.bytes c.loop-running.host)
+      (sym inv.frames) inv.ready));
   enough =
       let f = c.args.running.now.frames in
-      enough_then g.S.Shadows (ground c.args.image.now f) c.args.running.now c.stretch.new.running c.args.pool.now c.loop-running.pool (g.H.Host.bytes c.args.host.now) (g.H.Host.bytes c.stretch.new.host) c.requires.between.held
-      (held_at g.S.Shadows c.args.image.now c.loop-running.running.frames f c.stretch.new.running c.loop-running.pool (g.H.Host.bytes c.stretch.new.host) c.loop-running.invariant.frames (c.stretch.ensures.leaves.held c.loop-running.pool (held_given g.S.Shadows c.args.image.now c.args.running.now.frames c.loop-running.running.frames c.loop-running.running c.begin.new.self c.loop-running.pool (g.H.Host.bytes c.loop-running.host) c.loop-running.invariant.frames c.loop-running.invariant.held)))
-      (keeps_join c.args.pool.now c.loop-running.pool c.loop-running.pool (g.H.Host.bytes c.args.host.now) (g.H.Host.bytes c.loop-running.host) (g.H.Host.bytes c.stretch.new.host)
-      (g.S.Shadows.frames c.args.running.now.shadows (g.H.Host.bytes c.args.host.now)) (g.S.Shadows.frames c.loop-running.running.shadows (g.H.Host.bytes c.loop-running.host)) (g.S.Shadows.frames c.stretch.new.running.shadows (g.H.Host.bytes c.stretch.new.host))
-      c.loop-running.invariant.pool (c.stretch.ensures.leaves.pool c.loop-running.pool (held_given g.S.Shadows c.args.image.now c.args.running.now.frames c.loop-running.running.frames c.loop-running.running c.begin.new.self c.loop-running.pool (g.H.Host.bytes c.loop-running.host) c.loop-running.invariant.frames c.loop-running.invariant.held))) c.requires.between.enough;
+      enough_then g.S.Shadows (ground c.args.image.now f) c.args.running.now c.stretch.new.running c.args.pool.now c.loop-running.pool
+      (g.H.Host.bytes c.args.host.now) (g.H.Host.bytes c.stretch.new.host) c.requires.between.held
+      (held_at g.S.Shadows c.args.image.now c.loop-running.running.frames f c.stretch.new.running c.loop-running.pool
+      (g.H.Host.bytes c.stretch.new.host) c.loop-running.invariant.frames
+      (c.stretch.ensures.leaves.held c.loop-running.pool
+      (held_given g.S.Shadows c.args.image.now c.args.running.now.frames c.loop-running.running.frames c.loop-running.running
+      c.begin.new.self c.loop-running.pool (g.H.Host.bytes c.loop-running.host) c.loop-running.invariant.frames
+      c.loop-running.invariant.held)))
+      (keeps_join c.args.pool.now c.loop-running.pool c.loop-running.pool (g.H.Host.bytes c.args.host.now)
+      (g.H.Host.bytes c.loop-running.host) (g.H.Host.bytes c.stretch.new.host)
+      (g.S.Shadows.frames c.args.running.now.shadows (g.H.Host.bytes c.args.host.now))
+      (g.S.Shadows.frames c.loop-running.running.shadows (g.H.Host.bytes c.loop-running.host))
+      (g.S.Shadows.frames c.stretch.new.running.shadows (g.H.Host.bytes c.stretch.new.host))
+      c.loop-running.invariant.pool
+      (c.stretch.ensures.leaves.pool c.loop-running.pool
+      (held_given g.S.Shadows c.args.image.now c.args.running.now.frames c.loop-running.running.frames c.loop-running.running
+      c.begin.new.self c.loop-running.pool (g.H.Host.bytes c.loop-running.host) c.loop-running.invariant.frames
+      c.loop-running.invariant.held))) c.requires.between.enough;
 }
 
 pub returns-in-Err-clause-slice : goal.returns-in-Err-clause-slice
 returns-in-Err-clause-slice g c =
     let f = c.args.running.now.frames in
     let m = wedge c.args.image.now c.args.script.now.list f in
-    let at = λ (n : ℕ) (r : Running g.row.S.Denot) (memory : List ℕ). state_of g.S.Shadows (wedge c.args.image.now c.args.script.now.list n) r memory in
+    let at = λ (n : ℕ) (r : Running g.row.S.Denot) (memory : List ℕ). state_of g.S.Shadows
+    (wedge c.args.image.now c.args.script.now.list n) r memory in
     let old = at f c.args.running.now (g.H.Host.bytes c.args.host.now) in
     let counts = counted (g.H.Host.retired c.args.host.now) (g.H.Host.passed c.args.host.now) in
     let r = c.loop-running.running in
@@ -234,15 +300,25 @@ returns-in-Err-clause-slice g c =
     let mid_counts = counted (g.H.Host.retired c.stretch.new.host) (g.H.Host.passed c.stretch.new.host) in
     let new_counts = counted (g.H.Host.retired c.one_step.new.host) (g.H.Host.passed c.one_step.new.host) in
     let none = none_done _ c.if-stretch-gt0.false in
-    let stays = subst (λ (n : ℕ). at n mid then_memory ≡ at n (record r { board = c.begin.new.self }) memory) inv.frames (c.stretch.ensures.goes.stays none) in
-    let same : mid_counts ≡ so_far = counts_same (g.H.Host.retired c.loop-running.host) (g.H.Host.retired c.stretch.new.host) (g.H.Host.passed c.loop-running.host) (g.H.Host.passed c.stretch.new.host) (same_then _ _ _ c.stretch.ensures.counts.retired none) (c.stretch.ensures.counts.passed none) in
-    let by_frames = subst (λ (n : ℕ). StepAs (wedge c.args.image.now c.args.script.now.list n) (at n mid then_memory) new.lost (Err c.in-Err.stop) (at n new new_memory) mid_counts new_counts) (c.stretch.ensures.leaves.frames ∙ inv.frames) (c.in-Err.ensures.steps.step c.args.script.now.list) in
-    let step : StepAs m (record (at f r memory) { board = given r.board c.args.script.now.list r.step }) new.lost (Err c.in-Err.stop) (at f new new_memory) so_far new_counts =
-    turned m (at f r memory) (at f mid then_memory) (at f new new_memory) c.begin.new.self new.lost (Err c.in-Err.stop) so_far mid_counts new_counts stays c.begin.ensures same by_frames in
+    let stays = subst (λ (n : ℕ). at n mid then_memory ≡ at n (record r { board = c.begin.new.self }) memory) inv.frames
+    (c.stretch.ensures.goes.stays none) in
+    let same : mid_counts ≡ so_far = counts_same (g.H.Host.retired c.loop-running.host) (g.H.Host.retired c.stretch.new.host)
+    (g.H.Host.passed c.loop-running.host) (g.H.Host.passed c.stretch.new.host) (same_then _ _ _ c.stretch.ensures.counts.retired none)
+    (c.stretch.ensures.counts.passed none) in
+    let by_frames =
+    subst (λ (n : ℕ). StepAs (wedge c.args.image.now c.args.script.now.list n) (at n mid then_memory) new.lost (Err c.in-Err.stop)
+    (at n new new_memory) mid_counts new_counts) (c.stretch.ensures.leaves.frames
+    ∙ inv.frames) (c.in-Err.ensures.steps.step c.args.script.now.list) in
+    let step : StepAs m (record (at f r memory) { board = given r.board c.args.script.now.list r.step }) new.lost (Err c.in-Err.stop)
+    (at f new new_memory) so_far new_counts =
+    turned m (at f r memory) (at f mid then_memory) (at f new new_memory) c.begin.new.self new.lost (Err c.in-Err.stop) so_far mid_counts
+    new_counts stays c.begin.ensures same by_frames in
     let e = c.in-Err.ensures.steps.leaves.stays.step in
     let n = c.stretch.ensures.counts.count in
     let still : new.step ≡ r.step = e ∙ same_then _ _ _ n none in
-    let unmoved : new_counts ≡ so_far = counts_same (g.H.Host.retired c.stretch.new.host) (g.H.Host.retired c.one_step.new.host) (g.H.Host.passed c.stretch.new.host) (g.H.Host.passed c.one_step.new.host) c.in-Err.ensures.counts.retired c.in-Err.ensures.counts.passed ∙ same in
+    let unmoved : new_counts ≡ so_far = counts_same (g.H.Host.retired c.stretch.new.host) (g.H.Host.retired c.one_step.new.host)
+    (g.H.Host.passed c.stretch.new.host) (g.H.Host.passed c.one_step.new.host) c.in-Err.ensures.counts.retired
+    c.in-Err.ensures.counts.passed ∙ same in
     let step_same : mid.step ≡ r.step = same_then _ _ _ n none in
     let notes_wanted = g.L.Notes.wants c.args.notes.now in
     let first = g.L.Notes.tells c.args.notes.now in
@@ -251,26 +327,42 @@ returns-in-Err-clause-slice g c =
     let told_now = subst (λ (k : ℕ). NotesOn notes_wanted before after (emptied_if new.lost.before k)) step_same
     (subst (λ (w : Bool). NotesOn w before after (emptied_if new.lost.before mid.step)) inv.wants c.tell.ensures.told) in
     let rises : r.fills ≤ new.fills = up_to _ _ _ c.stretch.ensures.leaves.filled.rises c.in-Err.ensures.accounts.filled.rises in
-    let begins = Begun g c.args.image.now c.args.script.now.list c.args.running.now.frames c.args.running.now (g.H.Host.bytes c.args.host.now) c.args.pool.now (g.L.Notes.wants c.args.notes.now) in
+    let begins = Begun g c.args.image.now c.args.script.now.list c.args.running.now.frames c.args.running.now
+    (g.H.Host.bytes c.args.host.now) c.args.pool.now (g.L.Notes.wants c.args.notes.now) in
     let laws = c.carry_laws.ensures in
-    let held_mid = held_at g.S.Shadows c.args.image.now r.frames f mid c.loop-running.pool then_memory inv.frames (c.stretch.ensures.leaves.held c.loop-running.pool (held_given g.S.Shadows c.args.image.now c.args.running.now.frames c.loop-running.running.frames c.loop-running.running c.begin.new.self c.loop-running.pool (g.H.Host.bytes c.loop-running.host) c.loop-running.invariant.frames c.loop-running.invariant.held)) in
+    let held_mid = held_at g.S.Shadows c.args.image.now r.frames f mid c.loop-running.pool then_memory inv.frames
+    (c.stretch.ensures.leaves.held c.loop-running.pool
+    (held_given g.S.Shadows c.args.image.now c.args.running.now.frames c.loop-running.running.frames c.loop-running.running c.begin.new.self
+    c.loop-running.pool (g.H.Host.bytes c.loop-running.host) c.loop-running.invariant.frames c.loop-running.invariant.held)) in
     let keeps_mid = keeps_join c.args.pool.now c.loop-running.pool c.loop-running.pool (g.H.Host.bytes c.args.host.now) memory then_memory
-    (g.S.Shadows.frames c.args.running.now.shadows (g.H.Host.bytes c.args.host.now)) (g.S.Shadows.frames r.shadows memory) (g.S.Shadows.frames mid.shadows then_memory)
-    inv.pool (c.stretch.ensures.leaves.pool c.loop-running.pool (held_given g.S.Shadows c.args.image.now c.args.running.now.frames c.loop-running.running.frames c.loop-running.running c.begin.new.self c.loop-running.pool (g.H.Host.bytes c.loop-running.host) c.loop-running.invariant.frames c.loop-running.invariant.held)) in
+    (g.S.Shadows.frames c.args.running.now.shadows (g.H.Host.bytes c.args.host.now)) (g.S.Shadows.frames r.shadows memory)
+    (g.S.Shadows.frames mid.shadows then_memory)
+    inv.pool (c.stretch.ensures.leaves.pool c.loop-running.pool
+    (held_given g.S.Shadows c.args.image.now c.args.running.now.frames c.loop-running.running.frames c.loop-running.running c.begin.new.self
+    c.loop-running.pool (g.H.Host.bytes c.loop-running.host) c.loop-running.invariant.frames c.loop-running.invariant.held)) in
     let clash : DropClashes m (at f r memory) new.lost.before begins (Knows g m r memory) =
-    drop_clashes g.S.Shadows (widens g) laws c.args.image.now c.args.script.now.list f r mid new memory then_memory new_memory c.loop-running.pool c.begin.new.self begins c.wanted-notes_wanted.result
-    (c.stretch.ensures.leaves.frames ∙ inv.frames) stays c.begin.ensures inv.held held_mid c.stretch.ensures.leaves.kept c.stretch.ensures.leaves.apart
-    (λ s. whole_then g.S.Shadows (widens g) laws (ground c.args.image.now f) c.args.running.now mid c.args.pool.now c.loop-running.pool (g.H.Host.bytes c.args.host.now) then_memory c.requires.between.held held_mid keeps_mid s.1)
+    drop_clashes g.S.Shadows (widens g) laws c.args.image.now c.args.script.now.list f r mid new memory then_memory new_memory
+    c.loop-running.pool c.begin.new.self begins c.wanted-notes_wanted.result
+    (c.stretch.ensures.leaves.frames ∙ inv.frames) stays c.begin.ensures inv.held held_mid c.stretch.ensures.leaves.kept
+    c.stretch.ensures.leaves.apart
+    (λ s. whole_then g.S.Shadows (widens g) laws (ground c.args.image.now f) c.args.running.now mid c.args.pool.now c.loop-running.pool
+    (g.H.Host.bytes c.args.host.now) then_memory c.requires.between.held held_mid keeps_mid s.1)
     c.in-Err.ensures.steps.clashed in
-    let ends = stopped m c.args.bound old (at f r memory) (at f new new_memory) new.lost c.in-Err.stop counts so_far told tells (pages_kept g.S.Shadows c.args.running.now.shadows (g.H.Host.bytes c.args.host.now)) c.args.running.now.fills r.fills new.fills notes_wanted (NotesOn notes_wanted first before) (NotesOn notes_wanted first after)
-    begins (Knows g m r memory) inv.going step c.loop-running-test.true still rises laws (known_past g laws m r memory) clash (notes_on_more notes_wanted first before after (emptied_if new.lost.before r.step) told_now) in
-    subst (λ (x : Counts). SliceAs m c.args.bound old (at f new new_memory) counts x told tells (pages_kept g.S.Shadows c.args.running.now.shadows (g.H.Host.bytes c.args.host.now)) c.args.running.now.fills new.fills notes_wanted (NotesOn notes_wanted first after) begins (Ok (Stopped c.in-Err.stop))) (sym unmoved) ends
+    let ends = stopped m c.args.bound old (at f r memory) (at f new new_memory) new.lost c.in-Err.stop counts so_far told tells
+    (pages_kept g.S.Shadows c.args.running.now.shadows (g.H.Host.bytes c.args.host.now)) c.args.running.now.fills r.fills new.fills
+    notes_wanted (NotesOn notes_wanted first before) (NotesOn notes_wanted first after)
+    begins (Knows g m r memory) inv.going step c.loop-running-test.true still rises laws (known_past g laws m r memory) clash
+    (notes_on_more notes_wanted first before after (emptied_if new.lost.before r.step) told_now) in
+    subst (λ (x : Counts). SliceAs m c.args.bound old (at f new new_memory) counts x told tells
+    (pages_kept g.S.Shadows c.args.running.now.shadows (g.H.Host.bytes c.args.host.now)) c.args.running.now.fills new.fills notes_wanted
+    (NotesOn notes_wanted first after) begins (Ok (Stopped c.in-Err.stop))) (sym unmoved) ends
 
 pub returns-in-Err-put_seen-clause-slice : goal.returns-in-Err-put_seen-clause-slice
 returns-in-Err-put_seen-clause-slice g c =
     let f = c.args.running.now.frames in
     let m = wedge c.args.image.now c.args.script.now.list f in
-    let at = λ (n : ℕ) (r : Running g.row.S.Denot) (memory : List ℕ). state_of g.S.Shadows (wedge c.args.image.now c.args.script.now.list n) r memory in
+    let at = λ (n : ℕ) (r : Running g.row.S.Denot) (memory : List ℕ). state_of g.S.Shadows
+    (wedge c.args.image.now c.args.script.now.list n) r memory in
     let old = at f c.args.running.now (g.H.Host.bytes c.args.host.now) in
     let counts = counted (g.H.Host.retired c.args.host.now) (g.H.Host.passed c.args.host.now) in
     let r = c.loop-running.running in
@@ -286,14 +378,23 @@ returns-in-Err-put_seen-clause-slice g c =
     let mid_counts = counted (g.H.Host.retired c.stretch.new.host) (g.H.Host.passed c.stretch.new.host) in
     let new_counts = counted (g.H.Host.retired c.one_step.new.host) (g.H.Host.passed c.one_step.new.host) in
     let none = none_done _ c.if-stretch-gt0.false in
-    let stays = subst (λ (n : ℕ). at n mid then_memory ≡ at n (record r { board = c.begin.new.self }) memory) inv.frames (c.stretch.ensures.goes.stays none) in
-    let same : mid_counts ≡ so_far = counts_same (g.H.Host.retired c.loop-running.host) (g.H.Host.retired c.stretch.new.host) (g.H.Host.passed c.loop-running.host) (g.H.Host.passed c.stretch.new.host) (same_then _ _ _ c.stretch.ensures.counts.retired none) (c.stretch.ensures.counts.passed none) in
-    let by_frames = subst (λ (n : ℕ). StepAs (wedge c.args.image.now c.args.script.now.list n) (at n mid then_memory) new.lost (Ok c.in-Ok.seen) (at n new new_memory) mid_counts new_counts) (c.stretch.ensures.leaves.frames ∙ inv.frames) (c.in-Ok.ensures.steps.step c.args.script.now.list) in
-    let step : StepAs m (record (at f r memory) { board = given r.board c.args.script.now.list r.step }) new.lost (Ok c.in-Ok.seen) (at f new new_memory) so_far new_counts =
-    turned m (at f r memory) (at f mid then_memory) (at f new new_memory) c.begin.new.self new.lost (Ok c.in-Ok.seen) so_far mid_counts new_counts stays c.begin.ensures same by_frames in
+    let stays = subst (λ (n : ℕ). at n mid then_memory ≡ at n (record r { board = c.begin.new.self }) memory) inv.frames
+    (c.stretch.ensures.goes.stays none) in
+    let same : mid_counts ≡ so_far = counts_same (g.H.Host.retired c.loop-running.host) (g.H.Host.retired c.stretch.new.host)
+    (g.H.Host.passed c.loop-running.host) (g.H.Host.passed c.stretch.new.host) (same_then _ _ _ c.stretch.ensures.counts.retired none)
+    (c.stretch.ensures.counts.passed none) in
+    let by_frames =
+    subst (λ (n : ℕ). StepAs (wedge c.args.image.now c.args.script.now.list n) (at n mid then_memory) new.lost (Ok c.in-Ok.seen)
+    (at n new new_memory) mid_counts new_counts) (c.stretch.ensures.leaves.frames
+    ∙ inv.frames) (c.in-Ok.ensures.steps.step c.args.script.now.list) in
+    let step : StepAs m (record (at f r memory) { board = given r.board c.args.script.now.list r.step }) new.lost (Ok c.in-Ok.seen)
+    (at f new new_memory) so_far new_counts =
+    turned m (at f r memory) (at f mid then_memory) (at f new new_memory) c.begin.new.self new.lost (Ok c.in-Ok.seen) so_far mid_counts
+    new_counts stays c.begin.ensures same by_frames in
     let step_same : c.stretch.new.running.step ≡ r.step = same_then _ _ _ c.stretch.ensures.counts.count none in
     let last = g.O.Sink.taken c.put_seen.new.out in
-    let put = subst (λ (n : ℕ). AppendsFront tells last (lines_of (items_at n (whats c.in-Ok.seen)))) step_same c.in-Err-put_seen.ensures.failed in
+    let put = subst (λ (n : ℕ). AppendsFront tells last (lines_of (items_at n (whats c.in-Ok.seen)))) step_same
+    c.in-Err-put_seen.ensures.failed in
     let count : new.step ≡ r.step + 1 = next_then _ _ _ c.in-Ok.ensures.steps.leaves.count step_same in
     let notes_wanted = g.L.Notes.wants c.args.notes.now in
     let first = g.L.Notes.tells c.args.notes.now in
@@ -302,29 +403,47 @@ returns-in-Err-put_seen-clause-slice g c =
     let told_now = subst (λ (k : ℕ). NotesOn notes_wanted before after (notes_then new.lost k)) step_same
     (subst (λ (w : Bool). NotesOn w before after (notes_then new.lost mid.step)) inv.wants c.tell_both.ensures.told) in
     let rises : r.fills ≤ new.fills = up_to _ _ _ c.stretch.ensures.leaves.filled.rises c.in-Ok.ensures.accounts.filled.rises in
-    let more = few g new new_memory _ _ _ (fills_join _ _ _ _ _ _ (fills_join _ _ _ _ _ _ inv.filled c.stretch.ensures.leaves.filled) c.in-Ok.ensures.accounts.filled) in
+    let more =
+    few g new new_memory _ _ _ (fills_join _ _ _ _ _ _ (fills_join _ _ _ _ _ _ inv.filled c.stretch.ensures.leaves.filled)
+    c.in-Ok.ensures.accounts.filled) in
     let exact = λ (w : notes_wanted ≡ true). c.in-Ok.ensures.steps.leaves.reloaded (inv.notes_wanted ∙ w) in
     let laws = c.carry_laws.ensures in
-    let begins = Begun g c.args.image.now c.args.script.now.list c.args.running.now.frames c.args.running.now (g.H.Host.bytes c.args.host.now) c.args.pool.now (g.L.Notes.wants c.args.notes.now) in
-    let held_mid = held_at g.S.Shadows c.args.image.now r.frames f mid c.loop-running.pool then_memory inv.frames (c.stretch.ensures.leaves.held c.loop-running.pool (held_given g.S.Shadows c.args.image.now c.args.running.now.frames c.loop-running.running.frames c.loop-running.running c.begin.new.self c.loop-running.pool (g.H.Host.bytes c.loop-running.host) c.loop-running.invariant.frames c.loop-running.invariant.held)) in
+    let begins = Begun g c.args.image.now c.args.script.now.list c.args.running.now.frames c.args.running.now
+    (g.H.Host.bytes c.args.host.now) c.args.pool.now (g.L.Notes.wants c.args.notes.now) in
+    let held_mid = held_at g.S.Shadows c.args.image.now r.frames f mid c.loop-running.pool then_memory inv.frames
+    (c.stretch.ensures.leaves.held c.loop-running.pool
+    (held_given g.S.Shadows c.args.image.now c.args.running.now.frames c.loop-running.running.frames c.loop-running.running c.begin.new.self
+    c.loop-running.pool (g.H.Host.bytes c.loop-running.host) c.loop-running.invariant.frames c.loop-running.invariant.held)) in
     let keeps_mid = keeps_join c.args.pool.now c.loop-running.pool c.loop-running.pool (g.H.Host.bytes c.args.host.now) memory then_memory
-    (g.S.Shadows.frames c.args.running.now.shadows (g.H.Host.bytes c.args.host.now)) (g.S.Shadows.frames r.shadows memory) (g.S.Shadows.frames mid.shadows then_memory)
-    inv.pool (c.stretch.ensures.leaves.pool c.loop-running.pool (held_given g.S.Shadows c.args.image.now c.args.running.now.frames c.loop-running.running.frames c.loop-running.running c.begin.new.self c.loop-running.pool (g.H.Host.bytes c.loop-running.host) c.loop-running.invariant.frames c.loop-running.invariant.held)) in
+    (g.S.Shadows.frames c.args.running.now.shadows (g.H.Host.bytes c.args.host.now)) (g.S.Shadows.frames r.shadows memory)
+    (g.S.Shadows.frames mid.shadows then_memory)
+    inv.pool (c.stretch.ensures.leaves.pool c.loop-running.pool
+    (held_given g.S.Shadows c.args.image.now c.args.running.now.frames c.loop-running.running.frames c.loop-running.running c.begin.new.self
+    c.loop-running.pool (g.H.Host.bytes c.loop-running.host) c.loop-running.invariant.frames c.loop-running.invariant.held)) in
     let over : StepCarries m (at f r memory) (at f new new_memory) new.lost begins (Knows g m r memory) (Knows g m new new_memory) =
-    step_carries g.S.Shadows (widens g) laws c.args.image.now c.args.script.now.list f r mid new memory then_memory new_memory c.loop-running.pool c.begin.new.self begins c.wanted-notes_wanted.result
-    (c.stretch.ensures.leaves.frames ∙ inv.frames) stays c.begin.ensures inv.held held_mid c.stretch.ensures.leaves.kept c.stretch.ensures.leaves.apart (λ s. inv.notes_wanted ∙ s.2)
-    (λ s. whole_then g.S.Shadows (widens g) laws (ground c.args.image.now f) c.args.running.now mid c.args.pool.now c.loop-running.pool (g.H.Host.bytes c.args.host.now) then_memory c.requires.between.held held_mid keeps_mid s.1)
+    step_carries g.S.Shadows (widens g) laws c.args.image.now c.args.script.now.list f r mid new memory then_memory new_memory
+    c.loop-running.pool c.begin.new.self begins c.wanted-notes_wanted.result
+    (c.stretch.ensures.leaves.frames ∙ inv.frames) stays c.begin.ensures inv.held held_mid c.stretch.ensures.leaves.kept
+    c.stretch.ensures.leaves.apart (λ s. inv.notes_wanted ∙ s.2)
+    (λ s. whole_then g.S.Shadows (widens g) laws (ground c.args.image.now f) c.args.running.now mid c.args.pool.now c.loop-running.pool
+    (g.H.Host.bytes c.args.host.now) then_memory c.requires.between.held held_mid keeps_mid s.1)
     c.in-Ok.ensures.steps.carried c.in-Ok.ensures.steps.clashed in
-    let s = going_on m old (at f r memory) (at f new new_memory) new.lost c.in-Ok.seen counts so_far new_counts told tells (pages_kept g.S.Shadows c.args.running.now.shadows (g.H.Host.bytes c.args.host.now)) c.args.running.now.fills r.fills new.fills notes_wanted (NotesOn notes_wanted first before) (NotesOn notes_wanted first after)
-    begins (Knows g m r memory) (Knows g m new new_memory) inv.going step count rises more exact laws (known_past g laws m r memory) over (notes_on_more notes_wanted first before after (notes_then new.lost r.step) told_now) in
-    failed m c.args.bound old (at f r memory) (at f new new_memory) c.in-Ok.seen c.in-Err-put_seen.failed counts new_counts told tells last (pages_kept g.S.Shadows c.args.running.now.shadows (g.H.Host.bytes c.args.host.now)) c.args.running.now.fills new.fills notes_wanted (NotesOn notes_wanted first after) begins (Knows g m new new_memory) s put
+    let s = going_on m old (at f r memory) (at f new new_memory) new.lost c.in-Ok.seen counts so_far new_counts told tells
+    (pages_kept g.S.Shadows c.args.running.now.shadows (g.H.Host.bytes c.args.host.now)) c.args.running.now.fills r.fills new.fills
+    notes_wanted (NotesOn notes_wanted first before) (NotesOn notes_wanted first after)
+    begins (Knows g m r memory) (Knows g m new new_memory) inv.going step count rises more exact laws (known_past g laws m r memory) over
+    (notes_on_more notes_wanted first before after (notes_then new.lost r.step) told_now) in
+    failed m c.args.bound old (at f r memory) (at f new new_memory) c.in-Ok.seen c.in-Err-put_seen.failed counts new_counts told tells last
+    (pages_kept g.S.Shadows c.args.running.now.shadows (g.H.Host.bytes c.args.host.now)) c.args.running.now.fills new.fills notes_wanted
+    (NotesOn notes_wanted first after) begins (Knows g m new new_memory) s put
     (within_bound _ _ _ count c.loop-running-test.true) laws (known_past g laws m new new_memory)
 
 pub loop-running-preserved : goal.loop-running-preserved
 loop-running-preserved g c =
     let f = c.args.running.now.frames in
     let m = wedge c.args.image.now c.args.script.now.list f in
-    let at = λ (n : ℕ) (r : Running g.row.S.Denot) (memory : List ℕ). state_of g.S.Shadows (wedge c.args.image.now c.args.script.now.list n) r memory in
+    let at = λ (n : ℕ) (r : Running g.row.S.Denot) (memory : List ℕ). state_of g.S.Shadows
+    (wedge c.args.image.now c.args.script.now.list n) r memory in
     let old = at f c.args.running.now (g.H.Host.bytes c.args.host.now) in
     let counts = counted (g.H.Host.retired c.args.host.now) (g.H.Host.passed c.args.host.now) in
     let r = c.loop-running.running in
@@ -340,11 +459,19 @@ loop-running-preserved g c =
     let mid_counts = counted (g.H.Host.retired c.stretch.new.host) (g.H.Host.passed c.stretch.new.host) in
     let new_counts = counted (g.H.Host.retired c.one_step.new.host) (g.H.Host.passed c.one_step.new.host) in
     let none = none_done _ c.if-stretch-gt0.false in
-    let stays = subst (λ (n : ℕ). at n mid then_memory ≡ at n (record r { board = c.begin.new.self }) memory) inv.frames (c.stretch.ensures.goes.stays none) in
-    let same : mid_counts ≡ so_far = counts_same (g.H.Host.retired c.loop-running.host) (g.H.Host.retired c.stretch.new.host) (g.H.Host.passed c.loop-running.host) (g.H.Host.passed c.stretch.new.host) (same_then _ _ _ c.stretch.ensures.counts.retired none) (c.stretch.ensures.counts.passed none) in
-    let by_frames = subst (λ (n : ℕ). StepAs (wedge c.args.image.now c.args.script.now.list n) (at n mid then_memory) new.lost (Ok c.in-Ok.seen) (at n new new_memory) mid_counts new_counts) (c.stretch.ensures.leaves.frames ∙ inv.frames) (c.in-Ok.ensures.steps.step c.args.script.now.list) in
-    let step : StepAs m (record (at f r memory) { board = given r.board c.args.script.now.list r.step }) new.lost (Ok c.in-Ok.seen) (at f new new_memory) so_far new_counts =
-    turned m (at f r memory) (at f mid then_memory) (at f new new_memory) c.begin.new.self new.lost (Ok c.in-Ok.seen) so_far mid_counts new_counts stays c.begin.ensures same by_frames in
+    let stays = subst (λ (n : ℕ). at n mid then_memory ≡ at n (record r { board = c.begin.new.self }) memory) inv.frames
+    (c.stretch.ensures.goes.stays none) in
+    let same : mid_counts ≡ so_far = counts_same (g.H.Host.retired c.loop-running.host) (g.H.Host.retired c.stretch.new.host)
+    (g.H.Host.passed c.loop-running.host) (g.H.Host.passed c.stretch.new.host) (same_then _ _ _ c.stretch.ensures.counts.retired none)
+    (c.stretch.ensures.counts.passed none) in
+    let by_frames =
+    subst (λ (n : ℕ). StepAs (wedge c.args.image.now c.args.script.now.list n) (at n mid then_memory) new.lost (Ok c.in-Ok.seen)
+    (at n new new_memory) mid_counts new_counts) (c.stretch.ensures.leaves.frames
+    ∙ inv.frames) (c.in-Ok.ensures.steps.step c.args.script.now.list) in
+    let step : StepAs m (record (at f r memory) { board = given r.board c.args.script.now.list r.step }) new.lost (Ok c.in-Ok.seen)
+    (at f new new_memory) so_far new_counts =
+    turned m (at f r memory) (at f mid then_memory) (at f new new_memory) c.begin.new.self new.lost (Ok c.in-Ok.seen) so_far mid_counts
+    new_counts stays c.begin.ensures same by_frames in
     let step_same : c.stretch.new.running.step ≡ r.step = same_then _ _ _ c.stretch.ensures.counts.count none in
     let last = g.O.Sink.taken c.put_seen.new.out in
     let put = subst (λ (n : ℕ). Appends tells last (lines_of (items_at n (whats c.in-Ok.seen)))) step_same c.in-Ok-put_seen.ensures.ok in
@@ -356,47 +483,93 @@ loop-running-preserved g c =
     let told_now = subst (λ (k : ℕ). NotesOn notes_wanted before after (notes_then new.lost k)) step_same
     (subst (λ (w : Bool). NotesOn w before after (notes_then new.lost mid.step)) inv.wants c.tell_both.ensures.told) in
     let rises : r.fills ≤ new.fills = up_to _ _ _ c.stretch.ensures.leaves.filled.rises c.in-Ok.ensures.accounts.filled.rises in
-    let more = few g new new_memory _ _ _ (fills_join _ _ _ _ _ _ (fills_join _ _ _ _ _ _ inv.filled c.stretch.ensures.leaves.filled) c.in-Ok.ensures.accounts.filled) in
+    let more =
+    few g new new_memory _ _ _ (fills_join _ _ _ _ _ _ (fills_join _ _ _ _ _ _ inv.filled c.stretch.ensures.leaves.filled)
+    c.in-Ok.ensures.accounts.filled) in
     let exact = λ (w : notes_wanted ≡ true). c.in-Ok.ensures.steps.leaves.reloaded (inv.notes_wanted ∙ w) in
     let laws = c.carry_laws.ensures in
-    let begins = Begun g c.args.image.now c.args.script.now.list c.args.running.now.frames c.args.running.now (g.H.Host.bytes c.args.host.now) c.args.pool.now (g.L.Notes.wants c.args.notes.now) in
-    let held_mid = held_at g.S.Shadows c.args.image.now r.frames f mid c.loop-running.pool then_memory inv.frames (c.stretch.ensures.leaves.held c.loop-running.pool (held_given g.S.Shadows c.args.image.now c.args.running.now.frames c.loop-running.running.frames c.loop-running.running c.begin.new.self c.loop-running.pool (g.H.Host.bytes c.loop-running.host) c.loop-running.invariant.frames c.loop-running.invariant.held)) in
+    let begins = Begun g c.args.image.now c.args.script.now.list c.args.running.now.frames c.args.running.now
+    (g.H.Host.bytes c.args.host.now) c.args.pool.now (g.L.Notes.wants c.args.notes.now) in
+    let held_mid = held_at g.S.Shadows c.args.image.now r.frames f mid c.loop-running.pool then_memory inv.frames
+    (c.stretch.ensures.leaves.held c.loop-running.pool
+    (held_given g.S.Shadows c.args.image.now c.args.running.now.frames c.loop-running.running.frames c.loop-running.running c.begin.new.self
+    c.loop-running.pool (g.H.Host.bytes c.loop-running.host) c.loop-running.invariant.frames c.loop-running.invariant.held)) in
     let keeps_mid = keeps_join c.args.pool.now c.loop-running.pool c.loop-running.pool (g.H.Host.bytes c.args.host.now) memory then_memory
-    (g.S.Shadows.frames c.args.running.now.shadows (g.H.Host.bytes c.args.host.now)) (g.S.Shadows.frames r.shadows memory) (g.S.Shadows.frames mid.shadows then_memory)
-    inv.pool (c.stretch.ensures.leaves.pool c.loop-running.pool (held_given g.S.Shadows c.args.image.now c.args.running.now.frames c.loop-running.running.frames c.loop-running.running c.begin.new.self c.loop-running.pool (g.H.Host.bytes c.loop-running.host) c.loop-running.invariant.frames c.loop-running.invariant.held)) in
+    (g.S.Shadows.frames c.args.running.now.shadows (g.H.Host.bytes c.args.host.now)) (g.S.Shadows.frames r.shadows memory)
+    (g.S.Shadows.frames mid.shadows then_memory)
+    inv.pool (c.stretch.ensures.leaves.pool c.loop-running.pool
+    (held_given g.S.Shadows c.args.image.now c.args.running.now.frames c.loop-running.running.frames c.loop-running.running c.begin.new.self
+    c.loop-running.pool (g.H.Host.bytes c.loop-running.host) c.loop-running.invariant.frames c.loop-running.invariant.held)) in
     let over : StepCarries m (at f r memory) (at f new new_memory) new.lost begins (Knows g m r memory) (Knows g m new new_memory) =
-    step_carries g.S.Shadows (widens g) laws c.args.image.now c.args.script.now.list f r mid new memory then_memory new_memory c.loop-running.pool c.begin.new.self begins c.wanted-notes_wanted.result
-    (c.stretch.ensures.leaves.frames ∙ inv.frames) stays c.begin.ensures inv.held held_mid c.stretch.ensures.leaves.kept c.stretch.ensures.leaves.apart (λ s. inv.notes_wanted ∙ s.2)
-    (λ s. whole_then g.S.Shadows (widens g) laws (ground c.args.image.now f) c.args.running.now mid c.args.pool.now c.loop-running.pool (g.H.Host.bytes c.args.host.now) then_memory c.requires.between.held held_mid keeps_mid s.1)
+    step_carries g.S.Shadows (widens g) laws c.args.image.now c.args.script.now.list f r mid new memory then_memory new_memory
+    c.loop-running.pool c.begin.new.self begins c.wanted-notes_wanted.result
+    (c.stretch.ensures.leaves.frames ∙ inv.frames) stays c.begin.ensures inv.held held_mid c.stretch.ensures.leaves.kept
+    c.stretch.ensures.leaves.apart (λ s. inv.notes_wanted ∙ s.2)
+    (λ s. whole_then g.S.Shadows (widens g) laws (ground c.args.image.now f) c.args.running.now mid c.args.pool.now c.loop-running.pool
+    (g.H.Host.bytes c.args.host.now) then_memory c.requires.between.held held_mid keeps_mid s.1)
     c.in-Ok.ensures.steps.carried c.in-Ok.ensures.steps.clashed in
-    let s = going_on m old (at f r memory) (at f new new_memory) new.lost c.in-Ok.seen counts so_far new_counts told tells (pages_kept g.S.Shadows c.args.running.now.shadows (g.H.Host.bytes c.args.host.now)) c.args.running.now.fills r.fills new.fills notes_wanted (NotesOn notes_wanted first before) (NotesOn notes_wanted first after)
-    begins (Knows g m r memory) (Knows g m new new_memory) inv.going step count rises more exact laws (known_past g laws m r memory) over (notes_on_more notes_wanted first before after (notes_then new.lost r.step) told_now) in
-    let stepped = stepped_put m old (at f r memory) (at f new new_memory) c.in-Ok.seen counts new_counts told tells last (pages_kept g.S.Shadows c.args.running.now.shadows (g.H.Host.bytes c.args.host.now)) c.args.running.now.fills new.fills notes_wanted (NotesOn notes_wanted first after) begins (Knows g m new new_memory) s put in
+    let s = going_on m old (at f r memory) (at f new new_memory) new.lost c.in-Ok.seen counts so_far new_counts told tells
+    (pages_kept g.S.Shadows c.args.running.now.shadows (g.H.Host.bytes c.args.host.now)) c.args.running.now.fills r.fills new.fills
+    notes_wanted (NotesOn notes_wanted first before) (NotesOn notes_wanted first after)
+    begins (Knows g m r memory) (Knows g m new new_memory) inv.going step count rises more exact laws (known_past g laws m r memory) over
+    (notes_on_more notes_wanted first before after (notes_then new.lost r.step) told_now) in
+    let stepped = stepped_put m old (at f r memory) (at f new new_memory) c.in-Ok.seen counts new_counts told tells last
+    (pages_kept g.S.Shadows c.args.running.now.shadows (g.H.Host.bytes c.args.host.now)) c.args.running.now.fills new.fills notes_wanted
+    (NotesOn notes_wanted first after) begins (Knows g m new new_memory) s put in
     let rested = c.rest.new.running in
     let frames_then : new.frames ≡ f = c.in-Ok.ensures.accounts.frames ∙ (c.stretch.ensures.leaves.frames ∙ inv.frames) in
-    let passes = subst (λ (n : ℕ). Passes (wedge c.args.image.now c.args.script.now.list n) (at n new new_memory) (at n rested new_memory) new_counts new_counts) frames_then
+    let passes = subst (λ (n : ℕ). Passes (wedge c.args.image.now c.args.script.now.list n) (at n new new_memory) (at n rested new_memory)
+    new_counts new_counts) frames_then
     (c.rest.ensures.passes c.args.image.now new_memory new_counts) in
-    let held_new = held_at g.S.Shadows c.args.image.now mid.frames f new c.one_step.new.pool new_memory (c.stretch.ensures.leaves.frames ∙ inv.frames) c.in-Ok.ensures.steps.leaves.held in
-    let held = held_later g.S.Shadows (ground c.args.image.now f) new rested.board rested.step c.one_step.new.pool new_memory c.rest.ensures.later held_new in
+    let held_new = held_at g.S.Shadows c.args.image.now mid.frames f new c.one_step.new.pool new_memory
+    (c.stretch.ensures.leaves.frames ∙ inv.frames) c.in-Ok.ensures.steps.leaves.held in
+    let held = held_later g.S.Shadows (ground c.args.image.now f) new rested.board rested.step c.one_step.new.pool new_memory
+    c.rest.ensures.later held_new in
     let as_were : rested ≡ record new { board = rested.board; step = rested.step } = c.rest.ensures.same in
     record {
-      going = going_turned m old (at f rested new_memory) counts new_counts told last (pages_kept g.S.Shadows c.args.running.now.shadows (g.H.Host.bytes c.args.host.now)) c.args.running.now.fills rested.fills notes_wanted (NotesOn notes_wanted first after) begins (Knows g m new new_memory) (Knows g m rested new_memory)
-          (known_there g laws m new rested new_memory new_memory (entries_of (g.S.Shadows.slots rested.shadows new_memory)) (ap (λ (x : Running g.row.S.Denot). x.shadows) as_were) held_new.stand (record { size = refl; frames = λ frame e. refl }))
-          (going_past m old (at f new new_memory) (at f rested new_memory) counts new_counts new_counts told last (pages_kept g.S.Shadows c.args.running.now.shadows (g.H.Host.bytes c.args.host.now)) c.args.running.now.fills new.fills rested.fills notes_wanted (NotesOn notes_wanted first after) begins (Knows g m new new_memory) stepped
+      going = going_turned m old (at f rested new_memory) counts new_counts told last
+          (pages_kept g.S.Shadows c.args.running.now.shadows (g.H.Host.bytes c.args.host.now)) c.args.running.now.fills rested.fills
+          notes_wanted (NotesOn notes_wanted first after) begins (Knows g m new new_memory) (Knows g m rested new_memory)
+          (known_there g laws m new rested new_memory new_memory (entries_of (g.S.Shadows.slots rested.shadows new_memory))
+          (ap (λ (x : Running g.row.S.Denot). x.shadows) as_were) held_new.stand (record { size = refl; frames = λ frame e. refl }))
+          (going_past m old (at f new new_memory) (at f rested new_memory) counts new_counts new_counts told last
+          (pages_kept g.S.Shadows c.args.running.now.shadows (g.H.Host.bytes c.args.host.now)) c.args.running.now.fills new.fills
+          rested.fills notes_wanted (NotesOn notes_wanted first after) begins (Knows g m new new_memory) stepped
           (subst (λ (x : Running g.row.S.Denot). new.fills ≤ x.fills) (sym as_were) (at_least _))
-          (subst (λ (x : Running g.row.S.Denot). CountsFills (pages_kept g.S.Shadows c.args.running.now.shadows (g.H.Host.bytes c.args.host.now)) (len (entries_of (g.S.Shadows.slots x.shadows new_memory))) c.args.running.now.fills x.fills) (sym as_were) more)
-          laws (known_past g laws m new new_memory) (room_at g.S.Shadows c.args.image.now c.args.script.now.list f new c.one_step.new.pool new_memory held_new) passes);
-      held = subst (λ (x : Running g.row.S.Denot). IsHeld g.S.Shadows (ground c.args.image.now f) x c.one_step.new.pool new_memory) (sym as_were) held;
-      ready = subst (λ (x : Running g.row.S.Denot). IsReady g.S.Shadows (ground c.args.image.now f) x.cpu x.shadows new_memory) (sym as_were)
-          (ready_at g c.args.image.now mid.frames f new.cpu new.shadows new_memory (c.stretch.ensures.leaves.frames ∙ inv.frames) c.in-Ok.ensures.steps.leaves.ready);
+          (subst (λ (x : Running g.row.S.Denot). CountsFills
+          (pages_kept g.S.Shadows c.args.running.now.shadows (g.H.Host.bytes c.args.host.now))
+          (len (entries_of (g.S.Shadows.slots x.shadows new_memory))) c.args.running.now.fills x.fills) (sym as_were) more)
+          laws (known_past g laws m new new_memory)
+          (room_at g.S.Shadows c.args.image.now c.args.script.now.list f new c.one_step.new.pool new_memory held_new) passes);
+      held = subst (λ (x : Running g.row.S.Denot). IsHeld g.S.Shadows (ground c.args.image.now f) x c.one_step.new.pool new_memory)
+          (sym as_were) held;
+      ready =
+          subst (λ (x : Running g.row.S.Denot). IsReady g.S.Shadows (ground c.args.image.now f) x.cpu x.shadows new_memory) (sym as_were)
+          (ready_at g c.args.image.now mid.frames f new.cpu new.shadows new_memory (c.stretch.ensures.leaves.frames ∙ inv.frames)
+          c.in-Ok.ensures.steps.leaves.ready);
       able = subst IsAble (sym (ap (λ (x : Running g.row.S.Denot). x.cpu) as_were)) c.in-Ok.ensures.steps.able;
-      pool = subst (λ (x : Running g.row.S.Denot). Keeps c.args.pool.now c.one_step.new.pool (g.H.Host.bytes c.args.host.now) new_memory (g.S.Shadows.frames c.args.running.now.shadows (g.H.Host.bytes c.args.host.now)) (g.S.Shadows.frames x.shadows new_memory)) (sym as_were)
-          (keeps_join c.args.pool.now c.loop-running.pool c.one_step.new.pool (g.H.Host.bytes c.args.host.now) (g.H.Host.bytes c.stretch.new.host) (g.H.Host.bytes c.one_step.new.host)
-          (g.S.Shadows.frames c.args.running.now.shadows (g.H.Host.bytes c.args.host.now)) (g.S.Shadows.frames c.stretch.new.running.shadows (g.H.Host.bytes c.stretch.new.host)) (g.S.Shadows.frames c.one_step.new.running.shadows (g.H.Host.bytes c.one_step.new.host))
-          (keeps_join c.args.pool.now c.loop-running.pool c.loop-running.pool (g.H.Host.bytes c.args.host.now) (g.H.Host.bytes c.loop-running.host) (g.H.Host.bytes c.stretch.new.host)
-          (g.S.Shadows.frames c.args.running.now.shadows (g.H.Host.bytes c.args.host.now)) (g.S.Shadows.frames c.loop-running.running.shadows (g.H.Host.bytes c.loop-running.host)) (g.S.Shadows.frames c.stretch.new.running.shadows (g.H.Host.bytes c.stretch.new.host))
-          c.loop-running.invariant.pool (c.stretch.ensures.leaves.pool c.loop-running.pool (held_given g.S.Shadows c.args.image.now c.args.running.now.frames c.loop-running.running.frames c.loop-running.running c.begin.new.self c.loop-running.pool (g.H.Host.bytes c.loop-running.host) c.loop-running.invariant.frames c.loop-running.invariant.held))) c.in-Ok.ensures.accounts.pool);
-      filled = subst (λ (x : Running g.row.S.Denot). CountsFills (pages_kept g.S.Shadows c.args.running.now.shadows (g.H.Host.bytes c.args.host.now)) (pages_kept g.S.Shadows x.shadows new_memory) c.args.running.now.fills x.fills) (sym as_were)
+      pool = subst (λ (x : Running g.row.S.Denot). Keeps c.args.pool.now c.one_step.new.pool (g.H.Host.bytes c.args.host.now) new_memory
+          (g.S.Shadows.frames c.args.running.now.shadows (g.H.Host.bytes c.args.host.now))
+          (g.S.Shadows.frames x.shadows new_memory)) (sym as_were)
+          (keeps_join c.args.pool.now c.loop-running.pool c.one_step.new.pool (g.H.Host.bytes c.args.host.now)
+          (g.H.Host.bytes c.stretch.new.host) (g.H.Host.bytes c.one_step.new.host)
+          (g.S.Shadows.frames c.args.running.now.shadows (g.H.Host.bytes c.args.host.now))
+          (g.S.Shadows.frames c.stretch.new.running.shadows (g.H.Host.bytes c.stretch.new.host))
+          (g.S.Shadows.frames c.one_step.new.running.shadows (g.H.Host.bytes c.one_step.new.host))
+          (keeps_join c.args.pool.now c.loop-running.pool c.loop-running.pool (g.H.Host.bytes c.args.host.now)
+          (g.H.Host.bytes c.loop-running.host) (g.H.Host.bytes c.stretch.new.host)
+          (g.S.Shadows.frames c.args.running.now.shadows (g.H.Host.bytes c.args.host.now))
+          (g.S.Shadows.frames c.loop-running.running.shadows (g.H.Host.bytes c.loop-running.host))
+          (g.S.Shadows.frames c.stretch.new.running.shadows (g.H.Host.bytes c.stretch.new.host))
+          c.loop-running.invariant.pool
+          (c.stretch.ensures.leaves.pool c.loop-running.pool
+          (held_given g.S.Shadows c.args.image.now c.args.running.now.frames c.loop-running.running.frames c.loop-running.running
+          c.begin.new.self c.loop-running.pool (g.H.Host.bytes c.loop-running.host) c.loop-running.invariant.frames
+          c.loop-running.invariant.held))) c.in-Ok.ensures.accounts.pool);
+      filled =
+          subst (λ (x : Running g.row.S.Denot). CountsFills
+          (pages_kept g.S.Shadows c.args.running.now.shadows (g.H.Host.bytes c.args.host.now)) (pages_kept g.S.Shadows x.shadows new_memory)
+          c.args.running.now.fills x.fills) (sym as_were)
           (fills_join _ _ _ _ _ _ (fills_join _ _ _ _ _ _ inv.filled c.stretch.ensures.leaves.filled) c.in-Ok.ensures.accounts.filled);
       started = c.in-Ok.ensures.started;
       frames = ap (λ (x : Running g.row.S.Denot). x.frames) as_were ∙ frames_then;
@@ -405,14 +578,16 @@ loop-running-preserved g c =
       silent = λ unwanted. c.tell_both.ensures.silent (inv.wants ∙ unwanted) ∙ inv.silent unwanted;
       kept = c.in-Ok-put_seen.ensures.kept ∙ inv.kept;
       bound = c.rest.ensures.within;
-      room = room_then _ _ _ _ _ _ _ _ _ _ inv.room c.loop-running-test.true c.in-Ok.ensures.counts.few c.stretch.ensures.counts.retired none c.in-Ok.ensures.steps.leaves.count step_same c.rest.ensures.later c.rest.ensures.within;
+      room = room_then _ _ _ _ _ _ _ _ _ _ inv.room c.loop-running-test.true c.in-Ok.ensures.counts.few c.stretch.ensures.counts.retired
+          none c.in-Ok.ensures.steps.leaves.count step_same c.rest.ensures.later c.rest.ensures.within;
     }
 
 pub returns-clause-slice : goal.returns-clause-slice
 returns-clause-slice g c =
     let f = c.args.running.now.frames in
     let m = wedge c.args.image.now c.args.script.now.list f in
-    let at = λ (n : ℕ) (r : Running g.row.S.Denot) (memory : List ℕ). state_of g.S.Shadows (wedge c.args.image.now c.args.script.now.list n) r memory in
+    let at = λ (n : ℕ) (r : Running g.row.S.Denot) (memory : List ℕ). state_of g.S.Shadows
+    (wedge c.args.image.now c.args.script.now.list n) r memory in
     let old = at f c.args.running.now (g.H.Host.bytes c.args.host.now) in
     let counts = counted (g.H.Host.retired c.args.host.now) (g.H.Host.passed c.args.host.now) in
     let r = c.loop-running.running in
@@ -421,8 +596,12 @@ returns-clause-slice g c =
     let told = g.O.Sink.taken c.args.out.now in
     let tells = g.O.Sink.taken c.loop-running.out in
     let inv = c.loop-running.invariant in
-    reached m c.args.bound old (at f r memory) counts so_far told tells (pages_kept g.S.Shadows c.args.running.now.shadows (g.H.Host.bytes c.args.host.now)) c.args.running.now.fills r.fills (g.L.Notes.wants c.args.notes.now) (NotesOn (g.L.Notes.wants c.args.notes.now) (g.L.Notes.tells c.args.notes.now) (g.L.Notes.tells c.loop-running.notes))
-    (Begun g c.args.image.now c.args.script.now.list c.args.running.now.frames c.args.running.now (g.H.Host.bytes c.args.host.now) c.args.pool.now (g.L.Notes.wants c.args.notes.now)) (Knows g m r memory) inv.going
+    reached m c.args.bound old (at f r memory) counts so_far told tells
+    (pages_kept g.S.Shadows c.args.running.now.shadows (g.H.Host.bytes c.args.host.now)) c.args.running.now.fills r.fills
+    (g.L.Notes.wants c.args.notes.now)
+    (NotesOn (g.L.Notes.wants c.args.notes.now) (g.L.Notes.tells c.args.notes.now) (g.L.Notes.tells c.loop-running.notes))
+    (Begun g c.args.image.now c.args.script.now.list c.args.running.now.frames c.args.running.now (g.H.Host.bytes c.args.host.now)
+    c.args.pool.now (g.L.Notes.wants c.args.notes.now)) (Knows g m r memory) inv.going
     (at_bound _ _ inv.bound c.loop-running-test.false) c.carry_laws.ensures (known_past g c.carry_laws.ensures m r memory)
 
 -- ---- what else is said of each end
@@ -445,15 +624,29 @@ returns-in-Err-clause-leaves g c = record {
   counted = c.in-Err.ensures.accounts.counted;
   stands = c.in-Err.ensures.accounts.stands;
   pool =
-      keeps_join c.args.pool.now c.loop-running.pool c.one_step.new.pool (g.H.Host.bytes c.args.host.now) (g.H.Host.bytes c.stretch.new.host) (g.H.Host.bytes c.one_step.new.host)
-      (g.S.Shadows.frames c.args.running.now.shadows (g.H.Host.bytes c.args.host.now)) (g.S.Shadows.frames c.stretch.new.running.shadows (g.H.Host.bytes c.stretch.new.host)) (g.S.Shadows.frames c.one_step.new.running.shadows (g.H.Host.bytes c.one_step.new.host))
-      (keeps_join c.args.pool.now c.loop-running.pool c.loop-running.pool (g.H.Host.bytes c.args.host.now) (g.H.Host.bytes c.loop-running.host) (g.H.Host.bytes c.stretch.new.host)
-      (g.S.Shadows.frames c.args.running.now.shadows (g.H.Host.bytes c.args.host.now)) (g.S.Shadows.frames c.loop-running.running.shadows (g.H.Host.bytes c.loop-running.host)) (g.S.Shadows.frames c.stretch.new.running.shadows (g.H.Host.bytes c.stretch.new.host))
-      c.loop-running.invariant.pool (c.stretch.ensures.leaves.pool c.loop-running.pool (held_given g.S.Shadows c.args.image.now c.args.running.now.frames c.loop-running.running.frames c.loop-running.running c.begin.new.self c.loop-running.pool (g.H.Host.bytes c.loop-running.host) c.loop-running.invariant.frames c.loop-running.invariant.held))) c.in-Err.ensures.accounts.pool;
+      keeps_join c.args.pool.now c.loop-running.pool c.one_step.new.pool (g.H.Host.bytes c.args.host.now)
+      (g.H.Host.bytes c.stretch.new.host) (g.H.Host.bytes c.one_step.new.host)
+      (g.S.Shadows.frames c.args.running.now.shadows (g.H.Host.bytes c.args.host.now))
+      (g.S.Shadows.frames c.stretch.new.running.shadows (g.H.Host.bytes c.stretch.new.host))
+      (g.S.Shadows.frames c.one_step.new.running.shadows (g.H.Host.bytes c.one_step.new.host))
+      (keeps_join c.args.pool.now c.loop-running.pool c.loop-running.pool (g.H.Host.bytes c.args.host.now)
+      (g.H.Host.bytes c.loop-running.host) (g.H.Host.bytes c.stretch.new.host)
+      (g.S.Shadows.frames c.args.running.now.shadows (g.H.Host.bytes c.args.host.now))
+      (g.S.Shadows.frames c.loop-running.running.shadows (g.H.Host.bytes c.loop-running.host))
+      (g.S.Shadows.frames c.stretch.new.running.shadows (g.H.Host.bytes c.stretch.new.host))
+      c.loop-running.invariant.pool
+      (c.stretch.ensures.leaves.pool c.loop-running.pool
+      (held_given g.S.Shadows c.args.image.now c.args.running.now.frames c.loop-running.running.frames c.loop-running.running
+      c.begin.new.self c.loop-running.pool (g.H.Host.bytes c.loop-running.host) c.loop-running.invariant.frames
+      c.loop-running.invariant.held))) c.in-Err.ensures.accounts.pool;
   few =
-      let held = c.stretch.ensures.leaves.held c.loop-running.pool (held_given g.S.Shadows c.args.image.now c.args.running.now.frames c.loop-running.running.frames c.loop-running.running c.begin.new.self c.loop-running.pool (g.H.Host.bytes c.loop-running.host) c.loop-running.invariant.frames c.loop-running.invariant.held) in
+      let held = c.stretch.ensures.leaves.held c.loop-running.pool
+      (held_given g.S.Shadows c.args.image.now c.args.running.now.frames c.loop-running.running.frames c.loop-running.running
+      c.begin.new.self c.loop-running.pool (g.H.Host.bytes c.loop-running.host) c.loop-running.invariant.frames
+      c.loop-running.invariant.held) in
       still_few _ _ _ _ held.fills c.in-Err.ensures.steps.leaves.stays.fills c.in-Err.ensures.steps.leaves.stays.step;
-  filled = fills_join _ _ _ _ _ _ (fills_join _ _ _ _ _ _ c.loop-running.invariant.filled c.stretch.ensures.leaves.filled) c.in-Err.ensures.accounts.filled;
+  filled = fills_join _ _ _ _ _ _ (fills_join _ _ _ _ _ _ c.loop-running.invariant.filled c.stretch.ensures.leaves.filled)
+      c.in-Err.ensures.accounts.filled;
   frames = c.in-Err.ensures.accounts.frames ∙ (c.stretch.ensures.leaves.frames ∙ c.loop-running.invariant.frames);
 }
 
@@ -478,13 +671,24 @@ returns-in-Err-put_seen-clause-leaves g c = record {
   counted = c.in-Ok.ensures.accounts.counted;
   stands = c.in-Ok.ensures.accounts.stands;
   pool =
-      keeps_join c.args.pool.now c.loop-running.pool c.one_step.new.pool (g.H.Host.bytes c.args.host.now) (g.H.Host.bytes c.stretch.new.host) (g.H.Host.bytes c.one_step.new.host)
-      (g.S.Shadows.frames c.args.running.now.shadows (g.H.Host.bytes c.args.host.now)) (g.S.Shadows.frames c.stretch.new.running.shadows (g.H.Host.bytes c.stretch.new.host)) (g.S.Shadows.frames c.one_step.new.running.shadows (g.H.Host.bytes c.one_step.new.host))
-      (keeps_join c.args.pool.now c.loop-running.pool c.loop-running.pool (g.H.Host.bytes c.args.host.now) (g.H.Host.bytes c.loop-running.host) (g.H.Host.bytes c.stretch.new.host)
-      (g.S.Shadows.frames c.args.running.now.shadows (g.H.Host.bytes c.args.host.now)) (g.S.Shadows.frames c.loop-running.running.shadows (g.H.Host.bytes c.loop-running.host)) (g.S.Shadows.frames c.stretch.new.running.shadows (g.H.Host.bytes c.stretch.new.host))
-      c.loop-running.invariant.pool (c.stretch.ensures.leaves.pool c.loop-running.pool (held_given g.S.Shadows c.args.image.now c.args.running.now.frames c.loop-running.running.frames c.loop-running.running c.begin.new.self c.loop-running.pool (g.H.Host.bytes c.loop-running.host) c.loop-running.invariant.frames c.loop-running.invariant.held))) c.in-Ok.ensures.accounts.pool;
+      keeps_join c.args.pool.now c.loop-running.pool c.one_step.new.pool (g.H.Host.bytes c.args.host.now)
+      (g.H.Host.bytes c.stretch.new.host) (g.H.Host.bytes c.one_step.new.host)
+      (g.S.Shadows.frames c.args.running.now.shadows (g.H.Host.bytes c.args.host.now))
+      (g.S.Shadows.frames c.stretch.new.running.shadows (g.H.Host.bytes c.stretch.new.host))
+      (g.S.Shadows.frames c.one_step.new.running.shadows (g.H.Host.bytes c.one_step.new.host))
+      (keeps_join c.args.pool.now c.loop-running.pool c.loop-running.pool (g.H.Host.bytes c.args.host.now)
+      (g.H.Host.bytes c.loop-running.host) (g.H.Host.bytes c.stretch.new.host)
+      (g.S.Shadows.frames c.args.running.now.shadows (g.H.Host.bytes c.args.host.now))
+      (g.S.Shadows.frames c.loop-running.running.shadows (g.H.Host.bytes c.loop-running.host))
+      (g.S.Shadows.frames c.stretch.new.running.shadows (g.H.Host.bytes c.stretch.new.host))
+      c.loop-running.invariant.pool
+      (c.stretch.ensures.leaves.pool c.loop-running.pool
+      (held_given g.S.Shadows c.args.image.now c.args.running.now.frames c.loop-running.running.frames c.loop-running.running
+      c.begin.new.self c.loop-running.pool (g.H.Host.bytes c.loop-running.host) c.loop-running.invariant.frames
+      c.loop-running.invariant.held))) c.in-Ok.ensures.accounts.pool;
   few = c.in-Ok.ensures.steps.leaves.held.fills;
-  filled = fills_join _ _ _ _ _ _ (fills_join _ _ _ _ _ _ c.loop-running.invariant.filled c.stretch.ensures.leaves.filled) c.in-Ok.ensures.accounts.filled;
+  filled = fills_join _ _ _ _ _ _ (fills_join _ _ _ _ _ _ c.loop-running.invariant.filled c.stretch.ensures.leaves.filled)
+      c.in-Ok.ensures.accounts.filled;
   frames = c.in-Ok.ensures.accounts.frames ∙ (c.stretch.ensures.leaves.frames ∙ c.loop-running.invariant.frames);
 }
 
@@ -562,16 +766,19 @@ pub one_step-requires-clause-able : goal.one_step-requires-clause-able
 one_step-requires-clause-able g c = c.stretch.ensures.leaves.able
 
 pub one_step-requires-clause-bound : goal.one_step-requires-clause-bound
-one_step-requires-clause-bound g c = still_below _ _ _ _ _ c.stretch.ensures.counts.count c.if-stretch-gt0.false c.loop-running-test.true c.requires.bound
+one_step-requires-clause-bound g c =
+    still_below _ _ _ _ _ c.stretch.ensures.counts.count c.if-stretch-gt0.false c.loop-running-test.true c.requires.bound
 
 pub one_step-requires-clause-room : goal.one_step-requires-clause-room
-one_step-requires-clause-room g c = room_for_one _ _ _ _ _ _ c.loop-running.invariant.room c.loop-running-test.true c.stretch.ensures.counts.retired c.if-stretch-gt0.false
+one_step-requires-clause-room g c =
+    room_for_one _ _ _ _ _ _ c.loop-running.invariant.room c.loop-running-test.true c.stretch.ensures.counts.retired c.if-stretch-gt0.false
 
 pub begin-requires : goal.begin-requires
 begin-requires g c = c.requires.script
 
 pub tell_both-requires : goal.tell_both-requires
-tell_both-requires g c = still_below _ _ _ _ _ c.stretch.ensures.counts.count c.if-stretch-gt0.false c.loop-running-test.true c.requires.bound
+tell_both-requires g c =
+    still_below _ _ _ _ _ c.stretch.ensures.counts.count c.if-stretch-gt0.false c.loop-running-test.true c.requires.bound
 
 pub rest-requires-clause-script : goal.rest-requires-clause-script
 rest-requires-clause-script g c = c.requires.script
@@ -580,7 +787,8 @@ pub rest-requires-clause-begun : goal.rest-requires-clause-begun
 rest-requires-clause-begun g c = begun _ _ c.in-Ok.ensures.steps.leaves.count
 
 pub rest-requires-clause-within : goal.rest-requires-clause-within
-rest-requires-clause-within g c = one_within _ _ _ _ _ c.in-Ok.ensures.steps.leaves.count c.stretch.ensures.counts.count c.if-stretch-gt0.false c.loop-running-test.true
+rest-requires-clause-within g c =
+    one_within _ _ _ _ _ c.in-Ok.ensures.steps.leaves.count c.stretch.ensures.counts.count c.if-stretch-gt0.false c.loop-running-test.true
 
 pub rest-requires-clause-bound : goal.rest-requires-clause-bound
 rest-requires-clause-bound g c = c.requires.bound
@@ -589,4 +797,5 @@ pub loop-running-smaller-then-stretch-gt0 : goal.loop-running-smaller-then-stret
 loop-running-smaller-then-stretch-gt0 g c = falls _ _ _ _ c.stretch.ensures.counts.count c.if-stretch-gt0.true c.loop-running-test.true
 
 pub loop-running-smaller : goal.loop-running-smaller
-loop-running-smaller g c = falls_then _ _ _ _ _ _ c.rest.ensures.later c.in-Ok.ensures.steps.leaves.count c.stretch.ensures.counts.count c.if-stretch-gt0.false c.loop-running-test.true
+loop-running-smaller g c = falls_then _ _ _ _ _ _ c.rest.ensures.later c.in-Ok.ensures.steps.leaves.count c.stretch.ensures.counts.count
+    c.if-stretch-gt0.false c.loop-running-test.true

@@ -16,18 +16,23 @@ invariant-loop-running g l = record {
   going : Going (wedge l.image l.script.list l.fn.running.frames)
       (state_of g.S.Shadows (wedge l.image l.script.list l.fn.running.frames) l.fn.running (g.H.Host.bytes l.fn.host))
       (state_of g.S.Shadows (wedge l.image l.script.list l.fn.running.frames) l.running (g.H.Host.bytes l.host))
-      (record { retired = g.H.Host.retired l.fn.host; passed = g.H.Host.passed l.fn.host }) (record { retired = g.H.Host.retired l.host; passed = g.H.Host.passed l.host })
-      (g.O.Sink.taken l.fn.out) (g.O.Sink.taken l.out) (pages_kept g.S.Shadows l.fn.running.shadows (g.H.Host.bytes l.fn.host)) l.fn.running.fills l.running.fills (g.L.Notes.wants l.fn.notes)
+      (record { retired = g.H.Host.retired l.fn.host; passed = g.H.Host.passed l.fn.host })
+      (record { retired = g.H.Host.retired l.host; passed = g.H.Host.passed l.host })
+      (g.O.Sink.taken l.fn.out) (g.O.Sink.taken l.out) (pages_kept g.S.Shadows l.fn.running.shadows (g.H.Host.bytes l.fn.host))
+      l.fn.running.fills l.running.fills (g.L.Notes.wants l.fn.notes)
       (NotesOn (g.L.Notes.wants l.fn.notes) (g.L.Notes.tells l.fn.notes) (g.L.Notes.tells l.notes))
       (IsCarried g.S.Shadows (wedge l.image l.script.list l.fn.running.frames) []
-      (state_of g.S.Shadows (wedge l.image l.script.list l.fn.running.frames) l.fn.running (g.H.Host.bytes l.fn.host)) l.fn.running.shadows (g.H.Host.bytes l.fn.host)
+      (state_of g.S.Shadows (wedge l.image l.script.list l.fn.running.frames) l.fn.running (g.H.Host.bytes l.fn.host)) l.fn.running.shadows
+      (g.H.Host.bytes l.fn.host)
       × (length (free_list l.fn.pool (g.H.Host.bytes l.fn.host)) + l.fn.running.held ≡ 512) × (g.L.Notes.wants l.fn.notes ≡ false))
       (CarriedWith g.S.Shadows (wedge l.image l.script.list l.fn.running.frames) l.running.shadows (g.H.Host.bytes l.host));
   held : IsHeld g.S.Shadows (ground l.image l.fn.running.frames) l.running l.pool (g.H.Host.bytes l.host);
   ready : IsReady g.S.Shadows (ground l.image l.fn.running.frames) l.running.cpu l.running.shadows (g.H.Host.bytes l.host);
   able : IsAble l.running.cpu;
-  pool : Keeps l.fn.pool l.pool (g.H.Host.bytes l.fn.host) (g.H.Host.bytes l.host) (g.S.Shadows.frames l.fn.running.shadows (g.H.Host.bytes l.fn.host)) (g.S.Shadows.frames l.running.shadows (g.H.Host.bytes l.host));
-  filled : CountsFills (pages_kept g.S.Shadows l.fn.running.shadows (g.H.Host.bytes l.fn.host)) (pages_kept g.S.Shadows l.running.shadows (g.H.Host.bytes l.host)) l.fn.running.fills l.running.fills;
+  pool : Keeps l.fn.pool l.pool (g.H.Host.bytes l.fn.host) (g.H.Host.bytes l.host)
+      (g.S.Shadows.frames l.fn.running.shadows (g.H.Host.bytes l.fn.host)) (g.S.Shadows.frames l.running.shadows (g.H.Host.bytes l.host));
+  filled : CountsFills (pages_kept g.S.Shadows l.fn.running.shadows (g.H.Host.bytes l.fn.host))
+      (pages_kept g.S.Shadows l.running.shadows (g.H.Host.bytes l.host)) l.fn.running.fills l.running.fills;
   started : g.H.Host.is_started l.host ≡ true;
   frames : l.running.frames ≡ l.fn.running.frames;
   wants : g.L.Notes.wants l.notes ≡ g.L.Notes.wants l.fn.notes;

@@ -13,7 +13,8 @@ resume-exit-requires-clause-root g c =
     let memory = g.H.Host.bytes c.args.host.now in
     let side = side_of (c.args.running.now.cpu.cpl == 3) in
     let root = g.S.Shadows.directory shadows side in
-    let lies = root_lies memory (g.S.Shadows.frames shadows memory) root (g.met.S.Shadows.holds shadows memory c.requires.stands) (g.met.S.Shadows.walked shadows memory side 0 root c.requires.stands (omega arith)) in
+    let lies = root_lies memory (g.S.Shadows.frames shadows memory) root (g.met.S.Shadows.holds shadows memory c.requires.stands)
+    (g.met.S.Shadows.walked shadows memory side 0 root c.requires.stands (omega arith)) in
     subst (λ (v : View). 4096 * v.root < length memory) (sym c.view_of-view.ensures) lies
 
 pub returns-then-done-eq0-clause-ran : goal.returns-then-done-eq0-clause-ran
@@ -23,7 +24,8 @@ returns-then-done-eq0-clause-ran g c =
     let s = standing old.cpu.regs (g.H.Host.bytes c.args.host.now) (g.H.Host.retired c.args.host.now) (g.H.Host.passed c.args.host.now) in
     let t = standing c.resume-exit.new.regs (g.H.Host.bytes host) (g.H.Host.retired host) (g.H.Host.passed host) in
     let v = view_by (g.S.Shadows.directory old.shadows) old.cpu in
-    let run : host_run v c.args.k s ≡ (c.resume-exit.result, t) = by_view c.view_of-view.result v c.args.k s (c.resume-exit.result, t) c.view_of-view.ensures c.resume-exit.ensures.runs in
+    let run : host_run v c.args.k s ≡ (c.resume-exit.result, t) =
+    by_view c.view_of-view.result v c.args.k s (c.resume-exit.result, t) c.view_of-view.ensures c.resume-exit.ensures.runs in
     let counts = counts_of c.each_is_run.ensures v c.args.k s c.resume-exit.result t run in
     let before = c.retired-before.ensures in
     let after = c.retired.ensures in
@@ -45,4 +47,5 @@ landed-running-requires g c =
     let host = c.resume-exit.new.self in
     let s = standing old.cpu.regs (g.H.Host.bytes c.args.host.now) (g.H.Host.retired c.args.host.now) (g.H.Host.passed c.args.host.now) in
     let t = standing c.resume-exit.new.regs (g.H.Host.bytes host) (g.H.Host.retired host) (g.H.Host.passed host) in
-    leads_low c.borders.ensures.enters c.borders.ensures.exits c.each_is_run.ensures c.view_of-view.result c.args.k s c.resume-exit.result t c.resume-exit.ensures.runs
+    leads_low c.borders.ensures.enters c.borders.ensures.exits c.each_is_run.ensures c.view_of-view.result c.args.k s c.resume-exit.result t
+    c.resume-exit.ensures.runs

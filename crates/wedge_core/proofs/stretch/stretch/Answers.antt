@@ -53,26 +53,36 @@ returns g c =
     let count : now.step ≡ old.step + done = step_then g.S.Shadows old now view start k done memory_then retired_then passed_then ran in
     let pool = c.requires.held.0 in
     let h = c.requires.held.1 in
-    let shadows = shadows_is g.S.Shadows laws image old.frames old pool memory h views.lends views.sees c.advances.ensures c.requires.able may c.if-running.false retired passed k done now memory_then retired_then passed_then ran in
-    let there = same_there g.S.Shadows laws image old.frames old pool memory h views.lends views.sees c.advances.ensures c.requires.able may c.if-running.false retired passed k done now memory_then retired_then passed_then ran script quiet in
+    let shadows = shadows_is g.S.Shadows laws image old.frames old pool memory h views.lends views.sees c.advances.ensures c.requires.able
+    may c.if-running.false retired passed k done now memory_then retired_then passed_then ran in
+    let there = same_there g.S.Shadows laws image old.frames old pool memory h views.lends views.sees c.advances.ensures c.requires.able may
+    c.if-running.false retired passed k done now memory_then retired_then passed_then ran script quiet in
     let inside = same_in g.S.Shadows laws image old.frames old pool memory h memory_then there in
     let others_then = met.same_other_roots old.shadows memory memory_then h.stand inside in
     record {
       goes = record {
         passes = λ some board is.
             let kept = set_of g.S.Shadows old memory in
-            passes_on g.S.Shadows laws image old.frames old c.requires.held.0 memory c.requires.held.1 views.lends views.sees c.advances.ensures c.requires.able may c.if-running.false retired passed k done now memory_then retired_then passed_then ran
+            passes_on g.S.Shadows laws image old.frames old c.requires.held.0 memory c.requires.held.1 views.lends views.sees
+            c.advances.ensures c.requires.able may c.if-running.false retired passed k done now memory_then retired_then passed_then ran
             script quiet board is kept (part_same kept kept refl) some refl;
-        stays = stays_on g.S.Shadows laws image old.frames old c.requires.held.0 memory c.requires.held.1 views.lends views.sees c.advances.ensures c.requires.able may c.if-running.false retired passed k done now memory_then retired_then passed_then ran
+        stays = stays_on g.S.Shadows laws image old.frames old c.requires.held.0 memory c.requires.held.1 views.lends views.sees
+            c.advances.ensures c.requires.able may c.if-running.false retired passed k done now memory_then retired_then passed_then ran
             script quiet;
       };
       leaves = record {
-        held = λ pool h. held_then g.S.Shadows laws image old.frames old pool memory h views.lends views.sees c.advances.ensures c.requires.able may c.if-running.false retired passed k done now memory_then retired_then passed_then ran script quiet;
-        pool = λ pool h. keeps_then g.S.Shadows laws image old.frames old pool memory h views.lends views.sees c.advances.ensures c.requires.able may c.if-running.false retired passed k done now memory_then retired_then passed_then ran script quiet;
+        held = λ pool h. held_then g.S.Shadows laws image old.frames old pool memory h views.lends views.sees c.advances.ensures
+            c.requires.able may c.if-running.false retired passed k done now memory_then retired_then passed_then ran script quiet;
+        pool = λ pool h. keeps_then g.S.Shadows laws image old.frames old pool memory h views.lends views.sees c.advances.ensures
+            c.requires.able may c.if-running.false retired passed k done now memory_then retired_then passed_then ran script quiet;
         filled =
-            subst (λ (s : g.row.S.Denot). CountsFills (pages_kept g.S.Shadows old.shadows memory) (pages_kept g.S.Shadows s memory_then) old.fills now.fills) (sym shadows)
-            (subst (λ (k : ℕ). CountsFills (pages_kept g.S.Shadows old.shadows memory) (pages_kept g.S.Shadows old.shadows memory_then) old.fills k) (sym (fills_then g.S.Shadows old now view start k done memory_then retired_then passed_then ran))
-            (fills_same _ _ old.fills (kept_same g.S.Shadows old.shadows memory memory_then (set_same g.S.Shadows laws image old.frames old pool memory h memory_then there) others_then)));
+            subst (λ (s : g.row.S.Denot). CountsFills (pages_kept g.S.Shadows old.shadows memory) (pages_kept g.S.Shadows s memory_then)
+            old.fills now.fills) (sym shadows)
+            (subst (λ (k : ℕ). CountsFills (pages_kept g.S.Shadows old.shadows memory) (pages_kept g.S.Shadows old.shadows memory_then)
+            old.fills k) (sym (fills_then g.S.Shadows old now view start k done memory_then retired_then passed_then ran))
+            (fills_same _ _ old.fills
+            (kept_same g.S.Shadows old.shadows memory memory_then
+            (set_same g.S.Shadows laws image old.frames old pool memory h memory_then there) others_then)));
         ready = λ ready.
             let protects : Protects g.S.Shadows = record {
               host = met.host;
@@ -80,18 +90,24 @@ returns g c =
               read_from_is_protected = met.read_from_is_protected;
               other_roots_protected = met.other_roots_protected;
             } in
-            let rules = rules_then g.S.Shadows laws image old.frames old pool memory h views.lends views.sees c.advances.ensures c.requires.able may c.if-running.false retired passed k done now memory_then retired_then passed_then ran in
-            let host_then = host_there g.S.Shadows laws image old.frames old pool memory h views.lends views.sees c.advances.ensures c.requires.able may c.if-running.false retired passed k done now memory_then retired_then passed_then ran script quiet in
+            let rules = rules_then g.S.Shadows laws image old.frames old pool memory h views.lends views.sees c.advances.ensures
+            c.requires.able may c.if-running.false retired passed k done now memory_then retired_then passed_then ran in
+            let host_then = host_there g.S.Shadows laws image old.frames old pool memory h views.lends views.sees c.advances.ensures
+            c.requires.able may c.if-running.false retired passed k done now memory_then retired_then passed_then ran script quiet in
             let untouched = λ (at : ℕ) (t : is_among at (g.S.Shadows.write_protected old.shadows) ≡ true).
-            untouched_then g.S.Shadows laws image old.frames old pool memory h views.lends views.sees c.advances.ensures c.requires.able may c.if-running.false retired passed k done now memory_then retired_then passed_then ran script quiet at
+            untouched_then g.S.Shadows laws image old.frames old pool memory h views.lends views.sees c.advances.ensures c.requires.able may
+            c.if-running.false retired passed k done now memory_then retired_then passed_then ran script quiet at
             (λ other same. unlent g.S.Shadows protects old.shadows other (side_of (old.cpu.cpl == 3)) at
-            (stand g.S.Shadows laws image old.frames old pool memory h other same) (whole_new g.S.Shadows laws image old.frames old pool memory h other same) t) in
+            (stand g.S.Shadows laws image old.frames old pool memory h other same)
+            (whole_new g.S.Shadows laws image old.frames old pool memory h other same) t) in
             let slots_then = met.same_slots old.shadows memory memory_then h.stand inside in
             subst (λ (s : g.row.S.Denot). IsReady g.S.Shadows (ground image old.frames) now.cpu s memory_then) (sym shadows)
-            (ready_on g.S.Shadows protects (ground image old.frames) h.wedge old.cpu now.cpu old.shadows memory memory_then h.host host_then rules.0 rules.1 rules.2 untouched slots_then others_then ready);
+            (ready_on g.S.Shadows protects (ground image old.frames) h.wedge old.cpu now.cpu old.shadows memory memory_then h.host host_then
+            rules.0 rules.1 rules.2 untouched slots_then others_then ready);
         kept = shadows;
         apart = inside;
-        able = able_then g.S.Shadows laws image old.frames old c.requires.held.0 memory c.requires.held.1 views.lends views.sees c.advances.ensures c.requires.able may c.if-running.false retired passed k done now memory_then retired_then passed_then ran
+        able = able_then g.S.Shadows laws image old.frames old c.requires.held.0 memory c.requires.held.1 views.lends views.sees
+            c.advances.ensures c.requires.able may c.if-running.false retired passed k done now memory_then retired_then passed_then ran
             script quiet;
         frames = frames_then g.S.Shadows old now view start k done memory_then retired_then passed_then ran;
       };
@@ -99,7 +115,8 @@ returns g c =
         count = count;
         most = omega (arith, count, few, most, begun);
         retired = ran.count;
-        passed = passed_on g.S.Shadows laws image old.frames old c.requires.held.0 memory c.requires.held.1 views.lends views.sees c.advances.ensures c.requires.able may c.if-running.false retired passed k done now memory_then retired_then passed_then ran
+        passed = passed_on g.S.Shadows laws image old.frames old c.requires.held.0 memory c.requires.held.1 views.lends views.sees
+            c.advances.ensures c.requires.able may c.if-running.false retired passed k done now memory_then retired_then passed_then ran
             script quiet;
       };
       ran = λ _ _. record {
@@ -130,7 +147,8 @@ returns-then-running-clause-leaves g c =
     }
 
 pub returns-then-running-clause-counts : goal.returns-then-running-clause-counts
-returns-then-running-clause-counts g c = record { count = omega arith; most = c.requires.bound.0; retired = omega arith; passed = λ none. refl }
+returns-then-running-clause-counts g c =
+    record { count = omega arith; most = c.requires.bound.0; retired = omega arith; passed = λ none. refl }
 
 pub run_on-requires-clause-bound : goal.run_on-requires-clause-bound
 run_on-requires-clause-bound g c =

@@ -15,7 +15,8 @@ returns-then-is_served-clause-turns g c =
     let s = c.args.shadows.now in let m = c.args.ram.now in
     record {
       there =
-          serves-same c.args.side c.args.wp (g.S.Shadows.write_protected s) (g.S.Shadows.slots s m c.args.page) (λ slot e. g.met.S.Shadows.barred s m c.args.page slot c.requires.stands c.requires.page e)
+          serves-same c.args.side c.args.wp (g.S.Shadows.write_protected s) (g.S.Shadows.slots s m c.args.page)
+          (λ slot e. g.met.S.Shadows.barred s m c.args.page slot c.requires.stands c.requires.page e)
           (sym c.is_served.ensures ∙ c.if-is_served.true);
       others = λ q small n. refl;
     }
@@ -32,5 +33,6 @@ returns-then-is_served-clause-filled g c = served-not _ _ (sym c.is_served.ensur
 pub returns-clause-turns : goal.returns-clause-turns
 returns-clause-turns g c =
     let s = g.S.Shadows.slots in let n = c.fill_page.new in
-    subst (λ (o : Option Entry). Turns (s c.args.shadows.now c.args.ram.now) (s n.shadows n.ram) c.args.page (filled_by c.args.side c.args.wp (g.S.Shadows.write_protected c.args.shadows.now) o))
+    subst (λ (o : Option Entry). Turns (s c.args.shadows.now c.args.ram.now) (s n.shadows n.ram) c.args.page
+    (filled_by c.args.side c.args.wp (g.S.Shadows.write_protected c.args.shadows.now) o))
     c.kept-entry.ensures.kept c.fill_page.ensures.turns

@@ -13,7 +13,8 @@ abbrev pub invariant-loop-i : goal.invariant-loop-i
 invariant-loop-i g l = let set = changed (entries_of (g.S.Shadows.slots l.fn.shadows l.fn.ram)) l.changes in record {
   stands : ∥ g.S.Shadows.stands l.shadows l.ram ∥₁;
   slots : (q : ℕ) → q < 2 ^ 20 → g.S.Shadows.slots l.shadows l.ram q
-      ≡ cond (is_among q l.pages && not (is_among q (drop l.i l.pages))) (filled_by l.side l.wp (g.S.Shadows.write_protected l.fn.shadows) (get set q)) (g.S.Shadows.slots l.fn.shadows l.fn.ram q);
+      ≡ cond (is_among q l.pages && not (is_among q (drop l.i l.pages)))
+      (filled_by l.side l.wp (g.S.Shadows.write_protected l.fn.shadows) (get set q)) (g.S.Shadows.slots l.fn.shadows l.fn.ram q);
   rest : KeepsRest g.S.Shadows l.fn.shadows l.shadows l.fn.ram l.ram;
   has_tables_under : OpensFor g.S.Shadows l.pages l.fn.shadows l.shadows l.fn.ram l.ram;
   left : length (used set (drop l.i l.pages)) ≤ length (free_list l.pool l.ram);

@@ -9,4 +9,5 @@ pub returns : goal.returns
 returns g c =
     let st = c.args.state.now in
     let set = changed (entries_of (g.S.Shadows.slots c.args.shadows.now c.args.ram.now)) st.changes in
-    c.count_used.ensures ∙ (ap (λ (xs : List ℕ). length (used set xs)) c.as_slice.ensures ∙ sym (used-visited set st.visited st.changes c.requires.told))
+    c.count_used.ensures ∙ (ap (λ (xs : List ℕ). length (used set xs)) c.as_slice.ensures
+    ∙ sym (used-visited set st.visited st.changes c.requires.told))

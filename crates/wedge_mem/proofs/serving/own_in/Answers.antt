@@ -8,5 +8,6 @@ pub returns-else-len-left-clause-owns : goal.returns-else-len-left-clause-owns
 returns-else-len-left-clause-owns g c =
     let over = λ (state : StepState). space g.B.Translations c.args.base.now c.args.ram.now state in
     let past = c.if-len-left.false in
-    own_two (over c.args.state.now) (over c.own_front-else-len-left.new.state) (over c.own_back.new.state) c.args.at c.args.len _ refl (omega (arith, past))
+    own_two (over c.args.state.now) (over c.own_front-else-len-left.new.state) (over c.own_back.new.state) c.args.at c.args.len _ refl
+    (omega (arith, past))
     c.own_front-else-len-left.ensures.owns c.own_back.ensures.owns

@@ -7,7 +7,8 @@ use Rattle.wedge_mem.proofs.telling.tell_written.Goals as goal
 pub written-requires-clause-owns : goal.written-requires-clause-owns
 written-requires-clause-owns g c =
     let l = c.loop-frame in let f = g.S.Shadows.frames in
-    Owns-moves c.args.pool.now l.pool c.args.ram.now l.ram (f c.args.shadows.now c.args.ram.now) (f l.shadows l.ram) c.requires.owns l.invariant.moves
+    Owns-moves c.args.pool.now l.pool c.args.ram.now l.ram (f c.args.shadows.now c.args.ram.now) (f l.shadows l.ram)
+    c.requires.owns l.invariant.moves
 
 pub loop-frame-init : goal.loop-frame-init
 loop-frame-init g c =
@@ -42,16 +43,22 @@ loop-frame-preserved g c =
       slots = λ page h. e.slots page h ∙ l.invariant.slots page h;
       entries = e.entries ∙ l.invariant.entries;
       known = record {
-        read_from = read_from-less wrote l.frame-index (read_from c.args.shadows.now) (read_from l.shadows) (read_from n.self) c.loop-frame-test.true e.known.read_from k.read_from;
-        noted_less = less-read_from (get_or wrote l.frame-index 0) (read_from c.args.shadows.now) (read_from l.shadows) (read_from n.self) e.known.read_from e.known.read_before k.noted_less;
-        stale = more-stale wrote l.frame-index (read_from c.args.shadows.now) (read_from l.shadows) (stale c.args.shadows.now) (stale l.shadows) (stale n.self) c.loop-frame-test.true k.stale e.known.stale k.noted_less k.read_from;
+        read_from = read_from-less wrote l.frame-index (read_from c.args.shadows.now) (read_from l.shadows) (read_from n.self)
+            c.loop-frame-test.true e.known.read_from k.read_from;
+        noted_less = less-read_from (get_or wrote l.frame-index 0) (read_from c.args.shadows.now) (read_from l.shadows) (read_from n.self)
+            e.known.read_from e.known.read_before k.noted_less;
+        stale = more-stale wrote l.frame-index (read_from c.args.shadows.now) (read_from l.shadows) (stale c.args.shadows.now)
+            (stale l.shadows) (stale n.self) c.loop-frame-test.true k.stale e.known.stale k.noted_less k.read_from;
         cr3 = e.known.cr3 ∙ k.cr3;
         write_protected = λ x h. k.write_protected x (e.known.write_protected x h);
-        unprotected = unprotected-more wrote l.frame-index (g.S.Shadows.write_protected l.shadows) (g.S.Shadows.write_protected n.self) c.loop-frame-test.true e.known.write_protected e.known.unprotected k.unprotected;
+        unprotected = unprotected-more wrote l.frame-index (g.S.Shadows.write_protected l.shadows) (g.S.Shadows.write_protected n.self)
+            c.loop-frame-test.true e.known.write_protected e.known.unprotected k.unprotected;
       };
       has_tables_under = λ indices h. e.has_tables_under indices (l.invariant.has_tables_under indices h);
-      other_roots = more-spared wrote l.frame-index (a c.args.shadows.now c.args.ram.now) (a l.shadows l.ram) (a n.self n.ram) c.loop-frame-test.true l.invariant.other_roots e.other_roots;
+      other_roots = more-spared wrote l.frame-index (a c.args.shadows.now c.args.ram.now) (a l.shadows l.ram) (a n.self n.ram)
+          c.loop-frame-test.true l.invariant.other_roots e.other_roots;
       roots = λ view. e.roots view ∙ l.invariant.roots view;
       fewer = omega (arith, before, now);
-      moves = Moves-trans c.args.pool.now l.pool c.written.new.pool c.args.ram.now l.ram c.written.new.ram (f c.args.shadows.now c.args.ram.now) (f l.shadows l.ram) (f c.written.new.self c.written.new.ram) l.invariant.moves e.moves;
+      moves = Moves-trans c.args.pool.now l.pool c.written.new.pool c.args.ram.now l.ram c.written.new.ram
+          (f c.args.shadows.now c.args.ram.now) (f l.shadows l.ram) (f c.written.new.self c.written.new.ram) l.invariant.moves e.moves;
     }

@@ -16,12 +16,15 @@ pub returns-clause-space : goal.returns-clause-space
 returns-clause-space g c =
     let a = c.args in
     c.begin_again.ensures.space
-    ∙ (λ i. space_at_start (original_mode a.image.now a.text.now not_yet c.requires.text i) a.frames a.cpu.now (original_shown a.image.now a.text.now a.frames a.ram.now c.requires.text i) (g.B.Translations.entries a.kept.now a.ram.now))
+    ∙ (λ i. space_at_start (original_mode a.image.now a.text.now not_yet c.requires.text i) a.frames a.cpu.now
+    (original_shown a.image.now a.text.now a.frames a.ram.now c.requires.text i) (g.B.Translations.entries a.kept.now a.ram.now))
 
 pub returns-clause-hides : goal.returns-clause-hides
 returns-clause-hides g c = λ n memory.
-    ap (λ (x : Guard). hidden x n memory) c.begin_again.ensures.guard ∙ original_hidden c.args.image.now c.args.text.now n memory c.requires.text
+    ap (λ (x : Guard). hidden x n memory) c.begin_again.ensures.guard ∙ original_hidden c.args.image.now c.args.text.now n
+    memory c.requires.text
 
 pub returns-clause-lays : goal.returns-clause-lays
 returns-clause-lays g c = λ n memory.
-    ap (λ (x : Guard). shown x n memory) c.begin_again.ensures.guard ∙ original_shown c.args.image.now c.args.text.now n memory c.requires.text
+    ap (λ (x : Guard). shown x n memory) c.begin_again.ensures.guard ∙ original_shown c.args.image.now c.args.text.now n
+    memory c.requires.text

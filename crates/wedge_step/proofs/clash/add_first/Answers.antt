@@ -14,26 +14,37 @@ use Rattle.wedge_step.proofs.LookedUses.{bytes_few}
 use Rattle.wedge_step.proofs.clash.add_first.Goals as goal
 
 -- the bytes of the first page
-first_bytes : (b : State) (x : Seen) (none into : List ℕ) (n : ℕ) → none ≡ [] → into ≡ none ++ part (marked b.ram x.marks) (4096 * x.frame + b.cpu.regs.eip % 4096) n → n ≡ front_len b.cpu.regs.eip → into ≡ bytes_seen (marked b.ram x.marks) x b.cpu.regs.eip (front_len b.cpu.regs.eip)
+first_bytes : (b : State) (x : Seen) (none into : List ℕ) (n : ℕ) → none ≡ [] → into ≡ none
+    ++ part (marked b.ram x.marks) (4096 * x.frame + b.cpu.regs.eip % 4096) n → n ≡ front_len b.cpu.regs.eip
+    → into ≡ bytes_seen (marked b.ram x.marks) x b.cpu.regs.eip (front_len b.cpu.regs.eip)
 first_bytes b x none into n e read len = read ∙ (λ j. e j ++ part (marked b.ram x.marks) (4096 * x.frame + b.cpu.regs.eip % 4096) (len j))
 
-module _ (m : Setting) (b : State) (x : Seen) (bytes list : List ℕ) (same : list ≡ bytes) (is : bytes ≡ bytes_seen (marked b.ram x.marks) x b.cpu.regs.eip (front_len b.cpu.regs.eip)) where
+module _ (m : Setting) (b : State) (x : Seen) (bytes list : List ℕ) (same : list ≡ bytes)
+    (is : bytes ≡ bytes_seen (marked b.ram x.marks) x b.cpu.regs.eip (front_len b.cpu.regs.eip)) where
   -- what they show
   behind : (d : Decoded) → d ≡ decoded list → uses_behind m b x bytes d ≡ uses_from m b (Some x)
   behind d told = ap (uses_behind m b x bytes) (told ∙ ap decoded same) ∙ ap (λ (l : List ℕ). uses_behind m b x l (decoded l)) is
 
-  by_ranges : (insn : Insn) (len : ℕ) (old all : List Use) → begins.Insn insn len ≡ decoded list → old ≡ fetch_uses b (b.cpu.regs.eip / 4096 ∷ []) → all ≡ old ++ range_uses b (begins.Insn insn len) → all ≡ uses_from m b (Some x)
-  by_ranges insn len old all told one more = more ∙ (ap (λ (l : List Use). l ++ range_uses b (begins.Insn insn len)) one ∙ behind (begins.Insn insn len) told)
+  by_ranges : (insn : Insn) (len : ℕ) (old all : List Use) → begins.Insn insn len ≡ decoded list
+      → old ≡ fetch_uses b (b.cpu.regs.eip / 4096 ∷ []) → all ≡ old ++ range_uses b (begins.Insn insn len) → all ≡ uses_from m b (Some x)
+  by_ranges insn len old all told one more =
+      more ∙ (ap (λ (l : List Use). l ++ range_uses b (begins.Insn insn len)) one ∙ behind (begins.Insn insn len) told)
 
-  goes_on : (all : List Use) → begins.Short ≡ decoded list → b.cpu.regs.eip / 4096 < 1048575 → all ≡ uses_on b (marked b.ram x.marks) bytes (next_seen m b x) → all ≡ uses_from m b (Some x)
+  goes_on : (all : List Use) → begins.Short ≡ decoded list → b.cpu.regs.eip / 4096 < 1048575
+      → all ≡ uses_on b (marked b.ram x.marks) bytes (next_seen m b x) → all ≡ uses_from m b (Some x)
   goes_on all told below more =
       let other : (b.cpu.regs.eip / 4096 == 0xFFFFF) ≡ false = ne_eqb (b.cpu.regs.eip / 4096) 0xFFFFF (λ e. omega (arith, e, below)) in
-      more ∙ (ap (λ (c : Bool). cond c (fetch_uses b (b.cpu.regs.eip / 4096 ∷ [])) (uses_on b (marked b.ram x.marks) bytes (next_seen m b x))) (sym other) ∙ behind begins.Short told)
+      more
+      ∙ (ap (λ (c : Bool). cond c (fetch_uses b (b.cpu.regs.eip / 4096 ∷ [])) (uses_on b (marked b.ram x.marks) bytes (next_seen m b x)))
+      (sym other) ∙ behind begins.Short told)
 
-  ends : (all : List Use) → begins.Short ≡ decoded list → b.cpu.regs.eip / 4096 ≡ 1048575 → all ≡ fetch_uses b (b.cpu.regs.eip / 4096 ∷ []) → all ≡ uses_from m b (Some x)
+  ends : (all : List Use) → begins.Short ≡ decoded list → b.cpu.regs.eip / 4096 ≡ 1048575 → all ≡ fetch_uses b (b.cpu.regs.eip / 4096 ∷ [])
+      → all ≡ uses_from m b (Some x)
   ends all told last one =
       let same : (b.cpu.regs.eip / 4096 == 0xFFFFF) ≡ true = rw last refl in
-      one ∙ (ap (λ (c : Bool). cond c (fetch_uses b (b.cpu.regs.eip / 4096 ∷ [])) (uses_on b (marked b.ram x.marks) bytes (next_seen m b x))) (sym same) ∙ behind begins.Short told)
+      one
+      ∙ (ap (λ (c : Bool). cond c (fetch_uses b (b.cpu.regs.eip / 4096 ∷ [])) (uses_on b (marked b.ram x.marks) bytes (next_seen m b x)))
+      (sym same) ∙ behind begins.Short told)
 
 pub add_next-requires-clause-few : goal.add_next-requires-clause-few
 add_next-requires-clause-few g c = bytes_few _ _ _ 11 _ _ c.new-bytes.ensures c.read.ensures c.front_len.ensures.few
@@ -78,7 +89,8 @@ returns-in-Insn g c =
     let b = looked_at g.S.Shadows a.cpu.now a.shadows.now a.view.now in
     let x = seen_of a.first in
     let is = first_bytes b x _ c.read.new.into.items _ c.new-bytes.ensures c.read.ensures c.front_len.ensures.len in
-    by_ranges m b x c.read.new.into.items _ c.as_slice.ensures.value is _ _ _ _ c.in-Insn.ensures.exact c.requires.one c.add_ranges.ensures.uses
+    by_ranges m b x c.read.new.into.items _ c.as_slice.ensures.value is _ _ _ _ c.in-Insn.ensures.exact c.requires.one
+    c.add_ranges.ensures.uses
 
 pub returns-in-Outside : goal.returns-in-Outside
 returns-in-Outside g c =

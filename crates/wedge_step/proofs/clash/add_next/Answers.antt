@@ -10,15 +10,18 @@ returns-in-Insn g c =
     let a = c.args in
     let ram = bytes_of a.view.now in
     let b = looked a.cpu.now ram (set_at g.S.Shadows a.shadows.now a.view.now) in
-    on_next (next_seen (ground_of a.view.now) b (seen_of a.first)) b (marked ram (marks_of a.first.marks)) a.bytes.now.items _ (seen_of c.in-Some.second) a.uses.now.items c.push.new.self.items _ _ _ refl
-    c.requires.one c.push.ensures.items c.in-Some.ensures.seen (c.as_slice.ensures.value ∙ c.read.ensures) c.in-Insn.ensures.exact c.add_ranges.ensures.uses
+    on_next (next_seen (ground_of a.view.now) b (seen_of a.first)) b (marked ram (marks_of a.first.marks)) a.bytes.now.items _
+    (seen_of c.in-Some.second) a.uses.now.items c.push.new.self.items _ _ _ refl
+    c.requires.one c.push.ensures.items c.in-Some.ensures.seen (c.as_slice.ensures.value ∙ c.read.ensures) c.in-Insn.ensures.exact
+    c.add_ranges.ensures.uses
 
 pub returns-in_default-decode : goal.returns-in_default-decode
 returns-in_default-decode g c =
     let a = c.args in
     let ram = bytes_of a.view.now in
     let b = looked a.cpu.now ram (set_at g.S.Shadows a.shadows.now a.view.now) in
-    on_next (next_seen (ground_of a.view.now) b (seen_of a.first)) b (marked ram (marks_of a.first.marks)) a.bytes.now.items _ (seen_of c.in-Some.second) a.uses.now.items c.push.new.self.items _ _ _ refl
+    on_next (next_seen (ground_of a.view.now) b (seen_of a.first)) b (marked ram (marks_of a.first.marks)) a.bytes.now.items _
+    (seen_of c.in-Some.second) a.uses.now.items c.push.new.self.items _ _ _ refl
     c.requires.one c.push.ensures.items c.in-Some.ensures.seen (c.as_slice.ensures.value ∙ c.read.ensures) c.decode.ensures.exact
     (no_ranges_more b c.decode.result (model_uses (a.cpu.now.cpl == 3) c.push.new.self.items) c.in_default-decode.not-Insn)
 

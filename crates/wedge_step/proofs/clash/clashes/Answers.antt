@@ -17,7 +17,8 @@ returns-clause-step g c = λ script b insn len fetch is_cpu is_ram is_set found.
     let fit : AreBytes b.ram = subst AreBytes (sym is_ram) c.are_bytes.ensures.bytes in
     let same : b.cpu.regs.eip ≡ a.cpu.now.regs.eip = ap (λ (x : Cpu). x.regs.eip) is_cpu in
     let small : b.cpu.regs.eip < 2 ^ 32 = omega (arith, same) in
-    as_the_step a.image.now script a.frames b a.cpu.now _ _ _ _ _ c.is_clash.ensures c.as_slice.ensures.value c.uses-uses.ensures is_cpu is_ram is_set
+    as_the_step a.image.now script a.frames b a.cpu.now _ _ _ _ _ c.is_clash.ensures c.as_slice.ensures.value c.uses-uses.ensures
+    is_cpu is_ram is_set
     (c.uses_are_seen.ensures.uses m b refl room fit small insn len fetch found)
 
 pub returns-clause-clashes : goal.returns-clause-clashes
@@ -30,4 +31,5 @@ returns-clause-clashes g c = λ found script b is_cpu is_ram is_set.
     let same : b.cpu.regs.eip ≡ a.cpu.now.regs.eip = ap (λ (x : Cpu). x.regs.eip) is_cpu in
     let small : b.cpu.regs.eip < 2 ^ 32 = omega (arith, same) in
     c.uses_are_seen.ensures.clashes m b refl room fit small
-    (as_it_looks a.image.now script a.frames b a.cpu.now _ _ _ _ _ c.is_clash.ensures c.as_slice.ensures.value c.uses-uses.ensures is_cpu is_ram is_set found)
+    (as_it_looks a.image.now script a.frames b a.cpu.now _ _ _ _ _ c.is_clash.ensures c.as_slice.ensures.value c.uses-uses.ensures is_cpu
+    is_ram is_set found)

@@ -13,25 +13,30 @@ use Rattle.wedge_step.proofs.close.drop_by.Goals as goal
 
 pub returns-then-are_rules_changed-clause-fewer : goal.returns-then-are_rules_changed-clause-fewer
 returns-then-are_rules_changed-clause-fewer g c =
-    let none = none_pages g.S.Shadows c.drop_all.new.self c.drop_all.new.ram c.drop_all.ensures.entries c.drop_all.ensures.other_roots in omega (arith, none)
+    let none = none_pages g.S.Shadows c.drop_all.new.self c.drop_all.new.ram c.drop_all.ensures.entries c.drop_all.ensures.other_roots in
+    omega (arith, none)
 
 pub returns-then-not-is_all-clause-ready : goal.returns-then-not-is_all-clause-ready
 returns-then-not-is_all-clause-ready g c = λ m pages low h.
     let same = c.are_rules_changed.ensures.same c.if-are_rules_changed.false in
     let d = c.args.worked.now.dropped in
-    rules_but g.S.Shadows (λ page. false) (left_out d pages) m c.args.before.now (record c.args.worked.now.cpu { cr3 = c.args.before.now.cr3 }) c.drop_from.new.shadows c.drop_from.new.ram refl same.1 same.0 (λ page o. refl)
+    rules_but g.S.Shadows (λ page. false) (left_out d pages) m c.args.before.now
+    (record c.args.worked.now.cpu { cr3 = c.args.before.now.cr3 }) c.drop_from.new.shadows c.drop_from.new.ram refl same.1
+    same.0 (λ page o. refl)
     (c.drop_from.ensures.ready m c.args.before.now pages low (sym c.is_all.ensures ∙ c.if-not-is_all.true) h)
 
 pub returns-else-not-is_all-clause-ready : goal.returns-else-not-is_all-clause-ready
 returns-else-not-is_all-clause-ready g c = λ m pages low h.
     let same = c.are_rules_changed.ensures.same c.if-are_rules_changed.false in
     let d = c.args.worked.now.dropped in
-    rules_but g.S.Shadows (leaving d pages) (left_out d pages) m c.args.before.now (record c.args.worked.now.cpu { cr3 = c.args.before.now.cr3 }) c.args.shadows.now c.args.ram.now refl same.1 same.0
+    rules_but g.S.Shadows (leaving d pages) (left_out d pages) m c.args.before.now
+    (record c.args.worked.now.cpu { cr3 = c.args.before.now.cr3 }) c.args.shadows.now c.args.ram.now refl same.1 same.0
     (λ page o. left_leaving d pages page (sym c.is_all.ensures ∙ c.if-not-is_all.false) o) h
 
 pub returns-then-are_rules_changed-clause-ready : goal.returns-then-are_rules_changed-clause-ready
 returns-then-are_rules_changed-clause-ready g c = λ m pages low h.
-    none_ready g.S.Shadows (left_out c.args.worked.now.dropped pages) m (record c.args.worked.now.cpu { cr3 = c.args.before.now.cr3 }) c.drop_all.new.self c.drop_all.new.ram
+    none_ready g.S.Shadows (left_out c.args.worked.now.dropped pages) m (record c.args.worked.now.cpu { cr3 = c.args.before.now.cr3 })
+    c.drop_all.new.self c.drop_all.new.ram
     (c.drop_all.ensures.known.cr3 ∙ h.cr3_is) c.drop_all.ensures.none c.drop_all.ensures.other_roots
 
 pub drop_from-requires-clause-page : goal.drop_from-requires-clause-page
@@ -65,7 +70,8 @@ pub returns-then-not-is_all-clause-moved : goal.returns-then-not-is_all-clause-m
 returns-then-not-is_all-clause-moved g c = c.drop_from.ensures.moved
 
 pub returns-else-not-is_all-clause-moved : goal.returns-else-not-is_all-clause-moved
-returns-else-not-is_all-clause-moved g c = let o = c.requires.owned in record { stands = o.stands; owns = o.owns; moves = Moves-refl _ _ _ o.owns.stands }
+returns-else-not-is_all-clause-moved g c = let o =
+    c.requires.owned in record { stands = o.stands; owns = o.owns; moves = Moves-refl _ _ _ o.owns.stands }
 
 pub returns-then-are_rules_changed-clause-shown : goal.returns-then-are_rules_changed-clause-shown
 returns-then-are_rules_changed-clause-shown g c = λ image. record {
@@ -77,8 +83,10 @@ pub returns-then-not-is_all-clause-shown : goal.returns-then-not-is_all-clause-s
 returns-then-not-is_all-clause-shown g c = λ image.
     let same = c.are_rules_changed.ensures.same c.if-are_rules_changed.false in
     record {
-      present = λ h. subst (λ (w : Bool). AreOpen image w (g.S.Shadows.slots c.drop_from.new.shadows c.drop_from.new.ram)) (sym same.0) ((c.drop_from.ensures.shown image _).present h);
-      others = λ h. subst (λ (w : Bool). AllOpen image w (g.S.Shadows.other_roots c.drop_from.new.shadows c.drop_from.new.ram)) (sym same.0) ((c.drop_from.ensures.shown image _).others h);
+      present = λ h. subst (λ (w : Bool). AreOpen image w (g.S.Shadows.slots c.drop_from.new.shadows c.drop_from.new.ram)) (sym same.0)
+          ((c.drop_from.ensures.shown image _).present h);
+      others = λ h. subst (λ (w : Bool). AllOpen image w (g.S.Shadows.other_roots c.drop_from.new.shadows c.drop_from.new.ram)) (sym same.0)
+          ((c.drop_from.ensures.shown image _).others h);
     }
 
 pub returns-else-not-is_all-clause-shown : goal.returns-else-not-is_all-clause-shown
@@ -101,7 +109,11 @@ returns-else-not-is_all-clause-left g c = λ no. absurd (both_ways _ no (sym c.i
 pub returns-then-are_rules_changed-clause-changed : goal.returns-then-are_rules_changed-clause-changed
 returns-then-are_rules_changed-clause-changed g c = λ yes.
     let e = c.drop_all.ensures in
-    record { rules = c.are_rules_changed.ensures.other c.if-are_rules_changed.true; none = e.none; beside = record { notes = e.known.read_from; marks = e.known.stale; others = e.other_roots } }
+    record {
+      rules = c.are_rules_changed.ensures.other c.if-are_rules_changed.true;
+      none = e.none;
+      beside = record { notes = e.known.read_from; marks = e.known.stale; others = e.other_roots };
+    }
 
 pub returns-then-not-is_all-clause-changed : goal.returns-then-not-is_all-clause-changed
 returns-then-not-is_all-clause-changed g c = λ yes. absurd (both_ways false refl yes)

@@ -15,19 +15,26 @@ use Rattle.wedge_step.proofs.Leaving.{stays_by, stays_same}
 use Rattle.wedge_step.proofs.close.drop_from.Goals as goal
 
 pub returns-in-Page-clause-fewer : goal.returns-in-Page-clause-fewer
-returns-in-Page-clause-fewer g c = fewer_pages _ _ _ _ (part_join _ _ _ (part_same _ _ c.drop_page.ensures.entries) (dropped_part (dropped.Page c.in-Page.page) _)) (same_shed _ _ c.drop_page.ensures.beside.other_roots)
+returns-in-Page-clause-fewer g c =
+    fewer_pages _ _ _ _ (part_join _ _ _ (part_same _ _ c.drop_page.ensures.entries) (dropped_part (dropped.Page c.in-Page.page) _))
+    (same_shed _ _ c.drop_page.ensures.beside.other_roots)
 
 pub returns-in-Dir-clause-fewer : goal.returns-in-Dir-clause-fewer
-returns-in-Dir-clause-fewer g c = fewer_pages _ _ _ _ (part_join _ _ _ (part_same _ _ c.drop_dir.ensures.entries) (dropped_part (dropped.Dir c.in-Dir.index) _)) (same_shed _ _ c.drop_dir.ensures.beside.other_roots)
+returns-in-Dir-clause-fewer g c =
+    fewer_pages _ _ _ _ (part_join _ _ _ (part_same _ _ c.drop_dir.ensures.entries) (dropped_part (dropped.Dir c.in-Dir.index) _))
+    (same_shed _ _ c.drop_dir.ensures.beside.other_roots)
 
 pub returns-in-Page-clause-ready : goal.returns-in-Page-clause-ready
 returns-in-Page-clause-ready g c = λ m cpu pages low all h.
     let moves = c.drop_page.ensures.moves c.args.pool.now c.requires.owned.owns in
-    let front = front_same m.frames c.args.pool.now c.args.pool.now c.args.ram.now c.drop_page.new.ram _ _ low c.requires.owned.owns moves in
-    fewer_ready g.S.Shadows (leaving (dropped.Page c.in-Page.page) pages) (λ page. false) m cpu c.args.shadows.now c.drop_page.new.self c.args.ram.now c.drop_page.new.ram c.drop_page.ensures.beside.cr3
+    let front =
+    front_same m.frames c.args.pool.now c.args.pool.now c.args.ram.now c.drop_page.new.ram _ _ low c.requires.owned.owns moves in
+    fewer_ready g.S.Shadows (leaving (dropped.Page c.in-Page.page) pages) (λ page. false) m cpu c.args.shadows.now c.drop_page.new.self
+    c.args.ram.now c.drop_page.new.ram c.drop_page.ensures.beside.cr3
     (λ un. sym c.drop_page.ensures.beside.stale ∙ un) (λ f n. c.drop_page.ensures.beside.read_from f ∙ n)
     (λ page lt o. elim (eqb_tells page c.in-Page.page) [
-      | inl e ↦ inl (subst (λ (k : ℕ). g.S.Shadows.slots c.drop_page.new.self c.drop_page.new.ram k ≡ None) (sym e.1) c.drop_page.ensures.turns.there)
+      | inl e ↦ inl (subst (λ (k : ℕ). g.S.Shadows.slots c.drop_page.new.self c.drop_page.new.ram k ≡ None) (sym e.1)
+          c.drop_page.ensures.turns.there)
       | inr n ↦ inr (n.0, within-same _ _ (c.drop_page.ensures.turns.others page lt n.1))
     ])
     (same_shed _ _ c.drop_page.ensures.beside.other_roots) (shown_same m c.args.ram.now c.drop_page.new.ram front)
@@ -37,7 +44,8 @@ pub returns-in-Dir-clause-ready : goal.returns-in-Dir-clause-ready
 returns-in-Dir-clause-ready g c = λ m cpu pages low all h.
     let moves = c.drop_dir.ensures.moves c.args.pool.now c.requires.owned.owns in
     let front = front_same m.frames c.args.pool.now c.args.pool.now c.args.ram.now c.drop_dir.new.ram _ _ low c.requires.owned.owns moves in
-    fewer_ready g.S.Shadows (leaving (dropped.Dir c.in-Dir.index) pages) (λ page. false) m cpu c.args.shadows.now c.drop_dir.new.self c.args.ram.now c.drop_dir.new.ram c.drop_dir.ensures.beside.cr3
+    fewer_ready g.S.Shadows (leaving (dropped.Dir c.in-Dir.index) pages) (λ page. false) m cpu c.args.shadows.now c.drop_dir.new.self
+    c.args.ram.now c.drop_dir.new.ram c.drop_dir.ensures.beside.cr3
     (λ un. sym c.drop_dir.ensures.beside.stale ∙ un) (λ f n. c.drop_dir.ensures.beside.read_from f ∙ n)
     (λ page lt o. elim (eqb_tells (page / 1024) c.in-Dir.index) [
       | inl e ↦ inl (c.drop_dir.ensures.loses.gone page lt e.1)
@@ -48,7 +56,8 @@ returns-in-Dir-clause-ready g c = λ m cpu pages low all h.
 
 pub returns-in-All-clause-fewer : goal.returns-in-All-clause-fewer
 returns-in-All-clause-fewer g c =
-    let none = none_pages g.S.Shadows c.drop_all.new.self c.drop_all.new.ram c.drop_all.ensures.entries c.drop_all.ensures.other_roots in omega (arith, none)
+    let none = none_pages g.S.Shadows c.drop_all.new.self c.drop_all.new.ram c.drop_all.ensures.entries c.drop_all.ensures.other_roots in
+    omega (arith, none)
 
 pub returns-in-Nothing-clause-stay : goal.returns-in-Nothing-clause-stay
 returns-in-Nothing-clause-stay g c = λ all. stays_same _
@@ -96,25 +105,44 @@ pub returns-in-Nothing-clause-has_tables_under : goal.returns-in-Nothing-clause-
 returns-in-Nothing-clause-has_tables_under g c = λ indices h. h
 
 pub returns-in-Nothing-clause-moved : goal.returns-in-Nothing-clause-moved
-returns-in-Nothing-clause-moved g c = record { stands = c.requires.owned.stands; owns = c.requires.owned.owns; moves = Moves-refl _ _ _ c.requires.owned.owns.stands }
+returns-in-Nothing-clause-moved g c =
+    record { stands = c.requires.owned.stands; owns = c.requires.owned.owns; moves = Moves-refl _ _ _ c.requires.owned.owns.stands }
 
 pub returns-in-Nothing-clause-shown : goal.returns-in-Nothing-clause-shown
 returns-in-Nothing-clause-shown g c = λ image wp. record { present = λ h. h; others = λ h. h }
 
 pub returns-in-Page-clause-moved : goal.returns-in-Page-clause-moved
-returns-in-Page-clause-moved g c = record { stands = c.drop_page.ensures.stands; owns = Owns-moves _ _ _ _ _ _ c.requires.owned.owns (c.drop_page.ensures.moves c.args.pool.now c.requires.owned.owns); moves = c.drop_page.ensures.moves c.args.pool.now c.requires.owned.owns }
+returns-in-Page-clause-moved g c = record {
+  stands = c.drop_page.ensures.stands;
+  owns = Owns-moves _ _ _ _ _ _ c.requires.owned.owns (c.drop_page.ensures.moves c.args.pool.now c.requires.owned.owns);
+  moves = c.drop_page.ensures.moves c.args.pool.now c.requires.owned.owns;
+}
 
 pub returns-in-Page-clause-shown : goal.returns-in-Page-clause-shown
-returns-in-Page-clause-shown g c = λ image wp. record { present = λ h. turned_open image wp _ _ c.in-Page.page c.drop_page.ensures.turns h; others = λ h. open_shed image wp _ _ (same_shed _ _ c.drop_page.ensures.beside.other_roots) h }
+returns-in-Page-clause-shown g c = λ image wp. record {
+  present = λ h. turned_open image wp _ _ c.in-Page.page c.drop_page.ensures.turns h;
+  others = λ h. open_shed image wp _ _ (same_shed _ _ c.drop_page.ensures.beside.other_roots) h;
+}
 
 pub returns-in-Dir-clause-moved : goal.returns-in-Dir-clause-moved
-returns-in-Dir-clause-moved g c = record { stands = c.drop_dir.ensures.stands; owns = Owns-moves _ _ _ _ _ _ c.requires.owned.owns (c.drop_dir.ensures.moves c.args.pool.now c.requires.owned.owns); moves = c.drop_dir.ensures.moves c.args.pool.now c.requires.owned.owns }
+returns-in-Dir-clause-moved g c = record {
+  stands = c.drop_dir.ensures.stands;
+  owns = Owns-moves _ _ _ _ _ _ c.requires.owned.owns (c.drop_dir.ensures.moves c.args.pool.now c.requires.owned.owns);
+  moves = c.drop_dir.ensures.moves c.args.pool.now c.requires.owned.owns;
+}
 
 pub returns-in-Dir-clause-shown : goal.returns-in-Dir-clause-shown
-returns-in-Dir-clause-shown g c = λ image wp. record { present = λ h. lost_open image wp _ _ c.in-Dir.index c.drop_dir.ensures.loses h; others = λ h. open_shed image wp _ _ (same_shed _ _ c.drop_dir.ensures.beside.other_roots) h }
+returns-in-Dir-clause-shown g c = λ image wp. record {
+  present = λ h. lost_open image wp _ _ c.in-Dir.index c.drop_dir.ensures.loses h;
+  others = λ h. open_shed image wp _ _ (same_shed _ _ c.drop_dir.ensures.beside.other_roots) h;
+}
 
 pub returns-in-All-clause-moved : goal.returns-in-All-clause-moved
-returns-in-All-clause-moved g c = record { stands = c.drop_all.ensures.stands; owns = c.drop_all.ensures.owns; moves = c.drop_all.ensures.moves }
+returns-in-All-clause-moved g c =
+    record { stands = c.drop_all.ensures.stands; owns = c.drop_all.ensures.owns; moves = c.drop_all.ensures.moves }
 
 pub returns-in-All-clause-shown : goal.returns-in-All-clause-shown
-returns-in-All-clause-shown g c = λ image wp. record { present = λ h. none_open image wp _ c.drop_all.ensures.none; others = λ h. subst (AllOpen image wp) (sym c.drop_all.ensures.other_roots) tt }
+returns-in-All-clause-shown g c = λ image wp. record {
+  present = λ h. none_open image wp _ c.drop_all.ensures.none;
+  others = λ h. subst (AllOpen image wp) (sym c.drop_all.ensures.other_roots) tt;
+}

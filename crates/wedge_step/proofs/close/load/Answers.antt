@@ -14,15 +14,18 @@ module _ (g : Over) (c : goal.After-switch g) where
 pub returns-clause-fewer : goal.returns-clause-fewer
 returns-clause-fewer g c =
     let first = c.make_way.ensures.fewer in
-    let then = loaded_fewer g.S.Shadows c.args.cr3 c.make_way.new.shadows c.switch.new.self c.make_way.new.ram c.switch.new.ram (switched g c) in
+    let then =
+    loaded_fewer g.S.Shadows c.args.cr3 c.make_way.new.shadows c.switch.new.self c.make_way.new.ram c.switch.new.ram (switched g c) in
     omega (arith, first, then)
 
 pub returns-clause-ready : goal.returns-clause-ready
 returns-clause-ready g c = λ m before after low is pse wp has_tables_under h.
     let same = c.make_way.ensures.moved.moves.same.0 in
     let low_mid : m.frames ≤ base_of c.make_way.new.pool = omega (arith, low, same) in
-    let front = front_same m.frames c.make_way.new.pool c.switch.new.pool c.make_way.new.ram c.switch.new.ram _ _ low_mid c.make_way.ensures.moved.owns c.switch.ensures.moves in
-    loaded_ready g.S.Shadows c.args.cr3 c.make_way.new.shadows c.switch.new.self c.make_way.new.ram c.switch.new.ram (switched g c) m before after is pse wp (shown_same m c.make_way.new.ram c.switch.new.ram front)
+    let front = front_same m.frames c.make_way.new.pool c.switch.new.pool c.make_way.new.ram c.switch.new.ram _ _ low_mid
+    c.make_way.ensures.moved.owns c.switch.ensures.moves in
+    loaded_ready g.S.Shadows c.args.cr3 c.make_way.new.shadows c.switch.new.self c.make_way.new.ram c.switch.new.ram (switched g c) m before
+    after is pse wp (shown_same m c.make_way.new.ram c.switch.new.ram front)
     ((c.make_way.ensures.shown m.image _).present has_tables_under) (c.make_way.ensures.ready m before low h)
 
 pub make_way-requires-clause-enough : goal.make_way-requires-clause-enough
@@ -41,7 +44,11 @@ pub returns-clause-has_tables_under : goal.returns-clause-has_tables_under
 returns-clause-has_tables_under g c = λ indices h. c.switch.ensures.has_tables_under indices (c.make_way.ensures.has_tables_under indices h)
 
 pub returns-clause-moved : goal.returns-clause-moved
-returns-clause-moved g c = record { stands = c.switch.ensures.stands; owns = c.switch.ensures.owns; moves = Moves-trans _ _ _ _ _ _ _ _ _ c.make_way.ensures.moved.moves c.switch.ensures.moves }
+returns-clause-moved g c = record {
+  stands = c.switch.ensures.stands;
+  owns = c.switch.ensures.owns;
+  moves = Moves-trans _ _ _ _ _ _ _ _ _ c.make_way.ensures.moved.moves c.switch.ensures.moves;
+}
 
 pub returns-clause-emptied : goal.returns-clause-emptied
 returns-clause-emptied g c = λ w.

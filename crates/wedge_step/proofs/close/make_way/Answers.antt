@@ -21,7 +21,8 @@ lacking : (g : Over) (c : goal.After-drop_all g) → c.args.notes_wanted ≡ fal
 lacking g c unwanted enough =
     elim c.if-notes_wanted.branch [
       | then-notes_wanted w ↦ both_ways c.args.notes_wanted unwanted w.if-notes_wanted.true
-      | else-notes_wanted w ↦ (let short = ltb-true _ _ (sym w.value-is ∙ c.if-free-lt2.true) in let count = w.free.ensures.count c.args.ram.now in omega (arith, short, count, enough))
+      | else-notes_wanted w ↦ (let short = ltb-true _ _ (sym w.value-is ∙ c.if-free-lt2.true) in
+          let count = w.free.ensures.count c.args.ram.now in omega (arith, short, count, enough))
     ]
 
 -- it wasn't: no notes are wanted, and frames are free
@@ -36,15 +37,18 @@ spare : (g : Over) (c : goal.After-drop_pages g) (m : List ℕ) → 2 ≤ length
 spare g c m =
     elim c.if-notes_wanted.branch [
       | then-notes_wanted w ↦ absurd (both_ways c.if-notes_wanted.value c.if-free-lt2.false (w.value-is ∙ w.if-notes_wanted.true))
-      | else-notes_wanted w ↦ (let enough = ltb-false _ _ (sym w.value-is ∙ c.if-free-lt2.false) in let count = w.free.ensures.count m in omega (arith, enough, count))
+      | else-notes_wanted w ↦ (let enough = ltb-false _ _ (sym w.value-is ∙ c.if-free-lt2.false) in let count = w.free.ensures.count m in
+          omega (arith, enough, count))
     ]
 
-dropped : (g : Over) (c : goal.After-drop_pages g) → Drops g.S.Shadows c.args.pages.now c.args.shadows.now c.drop_pages.new.shadows c.args.ram.now c.drop_pages.new.ram
+dropped : (g : Over) (c : goal.After-drop_pages g) → Drops g.S.Shadows c.args.pages.now c.args.shadows.now c.drop_pages.new.shadows
+    c.args.ram.now c.drop_pages.new.ram
 dropped g c = drops g.S.Shadows g.met.S.Shadows.seen _ _ _ _ _ c.drop_pages.ensures.sight
 
 pub returns-then-free-lt2-clause-room : goal.returns-then-free-lt2-clause-room
 returns-then-free-lt2-clause-room g c =
-    let two = c.drop_all.ensures.two in let lengths = c.drop_all.ensures.moves.lengths in let enough = c.requires.enough in omega (arith, two, lengths, enough)
+    let two = c.drop_all.ensures.two in let lengths =
+    c.drop_all.ensures.moves.lengths in let enough = c.requires.enough in omega (arith, two, lengths, enough)
 
 pub returns-else-free-lt2-clause-room : goal.returns-else-free-lt2-clause-room
 returns-else-free-lt2-clause-room g c = spare g c c.drop_pages.new.ram
@@ -55,18 +59,21 @@ returns-else-free-lt2-clause-ready g c = λ m cpu low h.
     let n = c.drop_pages.new in
     let moves = c.drop_pages.ensures.moves c.args.pool.now c.requires.owned.owns in
     let front = front_same m.frames c.args.pool.now c.args.pool.now c.args.ram.now n.ram _ _ low c.requires.owned.owns moves in
-    fewer_ready g.S.Shadows (λ page. is_among page c.args.pages.now) (λ page. false) m cpu c.args.shadows.now n.shadows c.args.ram.now n.ram d.cr3
+    fewer_ready g.S.Shadows (λ page. is_among page c.args.pages.now) (λ page. false) m cpu c.args.shadows.now n.shadows
+    c.args.ram.now n.ram d.cr3
     (λ un. sym d.stale ∙ un) (λ f n. d.read_from f ∙ n)
     (λ page lt o. chosen_out (is_among page c.args.pages.now) _ _ (d.gone page lt) (d.others page lt))
     (same_shed _ _ d.other_roots) (shown_same m c.args.ram.now n.ram front) h
 
 pub returns-then-free-lt2-clause-ready : goal.returns-then-free-lt2-clause-ready
 returns-then-free-lt2-clause-ready g c = λ m cpu low h.
-    none_ready g.S.Shadows (λ page. false) m cpu c.drop_all.new.self c.drop_all.new.ram (c.drop_all.ensures.known.cr3 ∙ h.cr3_is) c.drop_all.ensures.none c.drop_all.ensures.other_roots
+    none_ready g.S.Shadows (λ page. false) m cpu c.drop_all.new.self c.drop_all.new.ram (c.drop_all.ensures.known.cr3 ∙ h.cr3_is)
+    c.drop_all.ensures.none c.drop_all.ensures.other_roots
 
 pub returns-then-free-lt2-clause-fewer : goal.returns-then-free-lt2-clause-fewer
 returns-then-free-lt2-clause-fewer g c =
-    let none = none_pages g.S.Shadows c.drop_all.new.self c.drop_all.new.ram c.drop_all.ensures.entries c.drop_all.ensures.other_roots in omega (arith, none)
+    let none = none_pages g.S.Shadows c.drop_all.new.self c.drop_all.new.ram c.drop_all.ensures.entries c.drop_all.ensures.other_roots in
+    omega (arith, none)
 
 pub returns-else-free-lt2-clause-fewer : goal.returns-else-free-lt2-clause-fewer
 returns-else-free-lt2-clause-fewer g c = fewer_pages _ _ _ _ (some_part _ _ (dropped g c).others) (same_shed _ _ (dropped g c).other_roots)
@@ -93,16 +100,29 @@ pub returns-else-free-lt2-clause-has_tables_under : goal.returns-else-free-lt2-c
 returns-else-free-lt2-clause-has_tables_under g c = c.drop_pages.ensures.has_tables_under
 
 pub returns-then-free-lt2-clause-moved : goal.returns-then-free-lt2-clause-moved
-returns-then-free-lt2-clause-moved g c = record { stands = c.drop_all.ensures.stands; owns = c.drop_all.ensures.owns; moves = c.drop_all.ensures.moves }
+returns-then-free-lt2-clause-moved g c =
+    record { stands = c.drop_all.ensures.stands; owns = c.drop_all.ensures.owns; moves = c.drop_all.ensures.moves }
 
 pub returns-then-free-lt2-clause-shown : goal.returns-then-free-lt2-clause-shown
-returns-then-free-lt2-clause-shown g c = λ image wp. record { present = λ h. none_open image wp (g.S.Shadows.slots c.drop_all.new.self c.drop_all.new.ram) c.drop_all.ensures.none; others = λ h. subst (λ (l : List OtherRoot). AllOpen image wp l) (sym c.drop_all.ensures.other_roots) tt }
+returns-then-free-lt2-clause-shown g c =
+    λ image wp. record {
+      present = λ h. none_open image wp (g.S.Shadows.slots c.drop_all.new.self c.drop_all.new.ram)
+          c.drop_all.ensures.none;
+      others = λ h. subst (λ (l : List OtherRoot). AllOpen image wp l) (sym c.drop_all.ensures.other_roots) tt;
+    }
 
 pub returns-else-free-lt2-clause-moved : goal.returns-else-free-lt2-clause-moved
-returns-else-free-lt2-clause-moved g c = record { stands = c.drop_pages.ensures.stands; owns = Owns-moves _ _ _ _ _ _ c.requires.owned.owns (c.drop_pages.ensures.moves c.args.pool.now c.requires.owned.owns); moves = c.drop_pages.ensures.moves c.args.pool.now c.requires.owned.owns }
+returns-else-free-lt2-clause-moved g c = record {
+  stands = c.drop_pages.ensures.stands;
+  owns = Owns-moves _ _ _ _ _ _ c.requires.owned.owns (c.drop_pages.ensures.moves c.args.pool.now c.requires.owned.owns);
+  moves = c.drop_pages.ensures.moves c.args.pool.now c.requires.owned.owns;
+}
 
 pub returns-else-free-lt2-clause-shown : goal.returns-else-free-lt2-clause-shown
-returns-else-free-lt2-clause-shown g c = λ image wp. record { present = λ h. some_open image wp _ _ (dropped g c).others h; others = λ h. open_shed image wp _ _ (same_shed _ _ (dropped g c).other_roots) h }
+returns-else-free-lt2-clause-shown g c = λ image wp. record {
+  present = λ h. some_open image wp _ _ (dropped g c).others h;
+  others = λ h. open_shed image wp _ _ (same_shed _ _ (dropped g c).other_roots) h;
+}
 
 pub returns-then-free-lt2-clause-emptied : goal.returns-then-free-lt2-clause-emptied
 returns-then-free-lt2-clause-emptied g c = λ w. record { none = c.drop_all.ensures.none; alone = c.drop_all.ensures.other_roots }
@@ -114,4 +134,5 @@ pub returns-then-free-lt2-clause-sheds : goal.returns-then-free-lt2-clause-sheds
 returns-then-free-lt2-clause-sheds g c = λ unwished enough. absurd (lacking g c unwished enough)
 
 pub returns-else-free-lt2-clause-sheds : goal.returns-else-free-lt2-clause-sheds
-returns-else-free-lt2-clause-sheds g c = λ unwished enough. let e = dropped g c in record { stay = stays_by _ _ e.read_from e.stale e.other_roots; gone = e.gone; others = e.stays }
+returns-else-free-lt2-clause-sheds g c = λ unwished enough. let e = dropped g c in
+    record { stay = stays_by _ _ e.read_from e.stale e.other_roots; gone = e.gone; others = e.stays }

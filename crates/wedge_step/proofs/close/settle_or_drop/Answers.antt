@@ -63,17 +63,23 @@ returns-clause-left g c = settled_left (entries_of (new g c)) (set g c) c.settle
 
 pub returns-clause-shows : goal.returns-clause-shows
 returns-clause-shows g c = λ image is h.
-    settled_shows (old g c) (new g c) (set g c) (pages g c) c.args.side c.args.state.now.control.wp (g.S.Shadows.write_protected c.settle.new.shadows) image c.args.count c.settle.result c.settle.ensures.settled.entries c.settle.ensures.settled.filled
-    (λ page lt. g.met.S.Shadows.entry_at c.settle.new.shadows c.settle.new.ram page lt) (c.are_open.ensures.opened c.if-not-are_open.false) is h
+    settled_shows (old g c) (new g c) (set g c) (pages g c) c.args.side c.args.state.now.control.wp
+    (g.S.Shadows.write_protected c.settle.new.shadows) image c.args.count c.settle.result c.settle.ensures.settled.entries
+    c.settle.ensures.settled.filled
+    (λ page lt. g.met.S.Shadows.entry_at c.settle.new.shadows c.settle.new.ram page lt)
+    (c.are_open.ensures.opened c.if-not-are_open.false) is h
 
 pub returns-clause-whole : goal.returns-clause-whole
 returns-clause-whole g c = λ may.
-    settled_whole (old g c) (new g c) (set g c) (pages g c) c.args.side c.args.state.now.control.wp (g.S.Shadows.write_protected c.settle.new.shadows) c.args.count (free g c) c.args.state.now.wrote c.settle.result c.settle.ensures.room c.settle.ensures.settled.entries c.settle.ensures.settled.filled
+    settled_whole (old g c) (new g c) (set g c) (pages g c) c.args.side c.args.state.now.control.wp
+    (g.S.Shadows.write_protected c.settle.new.shadows) c.args.count (free g c) c.args.state.now.wrote c.settle.result c.settle.ensures.room
+    c.settle.ensures.settled.entries c.settle.ensures.settled.filled
     c.settle.ensures.settled.unprotected may
 
 -- what the end of the step makes of what is kept
 module _ (g : Over) (c : goal.After-settle g) where
-  settled : Settled g.S.Shadows c.args.shadows.now c.settle.new.shadows c.args.ram.now c.settle.new.ram (set g c) c.args.state.now.tables c.args.state.now.wrote c.settle.result
+  settled : Settled g.S.Shadows c.args.shadows.now c.settle.new.shadows c.args.ram.now c.settle.new.ram (set g c) c.args.state.now.tables
+      c.args.state.now.wrote c.settle.result
   settled = record {
     entries = c.settle.ensures.settled.entries;
     at = λ page lt. g.met.S.Shadows.entry_at c.settle.new.shadows c.settle.new.ram page lt;
@@ -85,18 +91,23 @@ module _ (g : Over) (c : goal.After-settle g) where
 
 pub returns-clause-opens : goal.returns-clause-opens
 returns-clause-opens g c = λ image wp h.
-    closed_opens image wp c.settle.result c.args.state.now.tables c.args.state.now.wrote (g.S.Shadows.other_roots c.args.shadows.now c.args.ram.now) (g.S.Shadows.other_roots c.settle.new.shadows c.settle.new.ram) c.settle.ensures.settled.other_roots h
+    closed_opens image wp c.settle.result c.args.state.now.tables c.args.state.now.wrote
+    (g.S.Shadows.other_roots c.args.shadows.now c.args.ram.now) (g.S.Shadows.other_roots c.settle.new.shadows c.settle.new.ram)
+    c.settle.ensures.settled.other_roots h
 
 pub returns-clause-fewer : goal.returns-clause-fewer
 returns-clause-fewer g c = λ e.
-    closed_none g.S.Shadows c.args.shadows.now c.settle.new.shadows c.args.ram.now c.settle.new.ram (set g c) c.args.state.now.tables c.args.state.now.wrote c.settle.result (settled g c) e
+    closed_none g.S.Shadows c.args.shadows.now c.settle.new.shadows c.args.ram.now c.settle.new.ram (set g c) c.args.state.now.tables
+    c.args.state.now.wrote c.settle.result (settled g c) e
 
 pub returns-clause-ready : goal.returns-clause-ready
 returns-clause-ready g c = λ out m cpu frames h.
     let below = c.requires.sound.below in
     let low : m.frames ≤ base_of c.args.pool.now = omega (arith, below, frames) in
-    let front = front_same m.frames c.args.pool.now c.settle.new.pool c.args.ram.now c.settle.new.ram _ _ low (owns c.requires.sound.stands_now) c.settle.ensures.moves in
-    closed_ready g.S.Shadows out m cpu c.args.shadows.now c.settle.new.shadows c.args.ram.now c.settle.new.ram (set g c) c.args.state.now.tables c.args.state.now.wrote c.settle.result (settled g c)
+    let front = front_same m.frames c.args.pool.now c.settle.new.pool c.args.ram.now c.settle.new.ram _ _ low
+    (owns c.requires.sound.stands_now) c.settle.ensures.moves in
+    closed_ready g.S.Shadows out m cpu c.args.shadows.now c.settle.new.shadows c.args.ram.now c.settle.new.ram (set g c)
+    c.args.state.now.tables c.args.state.now.wrote c.settle.result (settled g c)
     (shown_same m c.args.ram.now c.settle.new.ram front) h
 
 pub returns-then-not-are_open-clause-opens : goal.returns-then-not-are_open-clause-opens
@@ -108,7 +119,8 @@ returns-then-not-are_open-clause-fewer g c = λ e.
 
 pub returns-then-not-are_open-clause-ready : goal.returns-then-not-are_open-clause-ready
 returns-then-not-are_open-clause-ready g c = λ out m cpu frames h.
-    none_ready g.S.Shadows out m cpu c.drop_all.new.self c.drop_all.new.ram (c.drop_all.ensures.known.cr3 ∙ h.cr3_is) c.drop_all.ensures.none c.drop_all.ensures.other_roots
+    none_ready g.S.Shadows out m cpu c.drop_all.new.self c.drop_all.new.ram (c.drop_all.ensures.known.cr3 ∙ h.cr3_is)
+    c.drop_all.ensures.none c.drop_all.ensures.other_roots
 
 pub returns-clause-has_tables_under : goal.returns-clause-has_tables_under
 returns-clause-has_tables_under g c = λ indices all o. c.settle.ensures.has_tables_under indices all o
@@ -140,13 +152,19 @@ returns-clause-moved g c = let e = c.settle.ensures in record { stands = e.stand
 pub returns-clause-filled : goal.returns-clause-filled
 returns-clause-filled g c =
     let state = c.args.state.now in let wp = c.args.state.now.control.wp in
-    counts_join g.S.Shadows c.args.side (stand c.args.shadows.now c.args.pool.now c.args.ram.now) (stand c.settle.new.shadows c.settle.new.pool c.settle.new.ram) state c.settle.result
-    (settled_few (old g c) (entries_of (old g c)) state.changes state.tables state.visited c.args.side wp c.settle.result c.settle.ensures.count (omega (arith, c.requires.sound.visits, c.requires.sound.few)))
+    counts_join g.S.Shadows c.args.side (stand c.args.shadows.now c.args.pool.now c.args.ram.now)
+    (stand c.settle.new.shadows c.settle.new.pool c.settle.new.ram) state c.settle.result
+    (settled_few (old g c) (entries_of (old g c)) state.changes state.tables state.visited c.args.side wp c.settle.result
+    c.settle.ensures.count (omega (arith, c.requires.sound.visits, c.requires.sound.few)))
     c.settle.ensures.count
-    (closed_filled c.settle.result state.tables state.wrote (entries_of (old g c)) (entries_of (new g c)) (g.S.Shadows.other_roots c.args.shadows.now c.args.ram.now) (g.S.Shadows.other_roots c.settle.new.shadows c.settle.new.ram) c.settle.ensures.settled.other_roots
-    (settled_filled (old g c) (entries_of (old g c)) state.changes state.tables state.visited c.args.side wp (entries_of (new g c)) c.settle.result c.requires.sound.told c.settle.ensures.count c.settle.ensures.settled.entries))
+    (closed_filled c.settle.result state.tables state.wrote (entries_of (old g c)) (entries_of (new g c))
+    (g.S.Shadows.other_roots c.args.shadows.now c.args.ram.now) (g.S.Shadows.other_roots c.settle.new.shadows c.settle.new.ram)
+    c.settle.ensures.settled.other_roots
+    (settled_filled (old g c) (entries_of (old g c)) state.changes state.tables state.visited c.args.side wp (entries_of (new g c))
+    c.settle.result c.requires.sound.told c.settle.ensures.count c.settle.ensures.settled.entries))
 
 pub returns-clause-told : goal.returns-clause-told
 returns-clause-told g c = λ e.
     let s = c.settle.ensures in
-    tells_by (sight g.S.Shadows c.args.shadows.now c.args.ram.now) (sight g.S.Shadows c.settle.new.shadows c.settle.new.ram) c.args.state.now.tables c.args.state.now.wrote c.settle.result s.settled.noted_only s.settled.stale s.settled.other_roots e
+    tells_by (sight g.S.Shadows c.args.shadows.now c.args.ram.now) (sight g.S.Shadows c.settle.new.shadows c.settle.new.ram)
+    c.args.state.now.tables c.args.state.now.wrote c.settle.result s.settled.noted_only s.settled.stale s.settled.other_roots e

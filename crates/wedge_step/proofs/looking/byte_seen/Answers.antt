@@ -19,9 +19,11 @@ returns c =
     let law = c.uses_are_seen.ensures.bytes in
     let one = law l (marks_of a.earlier) a.place fit (are_in n _ (marks_of a.earlier) long c.requires.earlier) in
     let more = marked_long l (marks_of a.earlier) n long c.requires.earlier in
-    let two = law first (marks_of a.marks) a.place (marked_fit l (marks_of a.earlier) n long c.requires.earlier fit) (are_in n _ (marks_of a.marks) more c.requires.marks) in
+    let two = law first (marks_of a.marks) a.place (marked_fit l (marks_of a.earlier) n long c.requires.earlier fit)
+    (are_in n _ (marks_of a.marks) more c.requires.marks) in
     c.flag.ensures
-    ∙ (flagged_same _ _ _ _ c.is_marked-2.ensures (c.flag-first.ensures ∙ (flagged_same _ _ _ _ c.is_marked.ensures c.byte.ensures ∙ sym one))
+    ∙ (flagged_same _ _ _ _ c.is_marked-2.ensures
+    (c.flag-first.ensures ∙ (flagged_same _ _ _ _ c.is_marked.ensures c.byte.ensures ∙ sym one))
     ∙ sym two)
 
 pub are_bytes-requires-clause-frames : goal.are_bytes-requires-clause-frames

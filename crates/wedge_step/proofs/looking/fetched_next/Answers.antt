@@ -16,14 +16,16 @@ returns-then-marks_front-clause-seen g c =
     let a = c.args in
     let set = set_at g.S.Shadows a.shadows.now a.view.now in
     let b = looked a.cpu.now (bytes_of a.view.now) set in
-    barred_next (ground_of a.view.now) b (seen_of a.first) _ refl (seen_of c.in-Some.second) c.in-Some.ensures.seen (sym (c.marks_front.ensures set) ∙ c.if-marks_front.true)
+    barred_next (ground_of a.view.now) b (seen_of a.first) _ refl (seen_of c.in-Some.second) c.in-Some.ensures.seen
+    (sym (c.marks_front.ensures set) ∙ c.if-marks_front.true)
 
 pub returns-else-marks_front-clause-seen : goal.returns-else-marks_front-clause-seen
 returns-else-marks_front-clause-seen g c =
     let a = c.args in
     let set = set_at g.S.Shadows a.shadows.now a.view.now in
     let b = looked a.cpu.now (bytes_of a.view.now) set in
-    some_next (ground_of a.view.now) b (seen_of a.first) _ refl (seen_of c.in-Some.second) c.in-Some.ensures.seen (sym (c.marks_front.ensures set) ∙ c.if-marks_front.false)
+    some_next (ground_of a.view.now) b (seen_of a.first) _ refl (seen_of c.in-Some.second) c.in-Some.ensures.seen
+    (sym (c.marks_front.ensures set) ∙ c.if-marks_front.false)
 
 pub fetched-requires-clause-stands : goal.fetched-requires-clause-stands
 fetched-requires-clause-stands g c = c.requires.stands

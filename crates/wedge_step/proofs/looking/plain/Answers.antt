@@ -13,7 +13,8 @@ returns-then-at-end-clause-bytes c =
     let v = c.args.view.now in
     let long = ap length c.text-text.ensures.text in
     let behind = c.if-at-end.true in
-    c.part-then-at-end.ensures.bytes ∙ shown_beside (ground_of v) v.ram.now c.args.at c.args.len v.room v.laid c.requires.within (inr (omega (arith, long, behind)))
+    c.part-then-at-end.ensures.bytes ∙ shown_beside (ground_of v) v.ram.now c.args.at c.args.len v.room v.laid c.requires.within
+    (inr (omega (arith, long, behind)))
 
 pub returns-clause-bytes : goal.returns-clause-bytes
 returns-clause-bytes c =

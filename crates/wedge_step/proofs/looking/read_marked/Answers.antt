@@ -25,5 +25,8 @@ loop-i-preserved c =
     let lt : p + i < length m = omega (arith, two, f, o, below) in
     let inv = c.loop-i.invariant in
     let n = c.push.ensures.len in
-    let k = inv.0 in
-    (omega (arith, n, k), part_next m a.into.now.items c.loop-i.into.items _ p i _ lt inv.1 (c.byte_seen.ensures ∙ ap (byte m) (omega arith)) c.push.ensures.items)
+    let k = inv.0 in (
+      omega (arith, n, k),
+      part_next m a.into.now.items c.loop-i.into.items _ p i _ lt inv.1
+          (c.byte_seen.ensures ∙ ap (byte m) (omega arith)) c.push.ensures.items,
+    )

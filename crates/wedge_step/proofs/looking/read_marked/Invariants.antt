@@ -9,4 +9,5 @@ use Rattle.wedge_step.proofs.looking.read_marked.Given as goal
 abbrev pub invariant-loop-i : goal.invariant-loop-i
 invariant-loop-i l =
     (length l.into.items ≡ length l.fn.into.items + l.i)
-    × (l.into.items ≡ l.fn.into.items ++ part (marked (marked (bytes_of l.view) (marks_of l.earlier)) (marks_of l.seen.marks)) (4096 * l.seen.frame + l.at % 4096) l.i)
+    × (l.into.items ≡ l.fn.into.items ++ part (marked (marked (bytes_of l.view) (marks_of l.earlier)) (marks_of l.seen.marks))
+    (4096 * l.seen.frame + l.at % 4096) l.i)

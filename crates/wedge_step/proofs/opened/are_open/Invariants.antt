@@ -7,4 +7,5 @@ use Rattle.wedge_step.specs.Opened.{is_entry_open}
 use Rattle.wedge_step.proofs.opened.are_open.Given as goal
 
 abbrev pub invariant-loop-page : goal.invariant-loop-page
-invariant-loop-page g l = (page : ℕ) → is_among page (take l.page-index l.page-items) ≡ true → is_entry_open l.count l.side (get (changed (entries_of (g.S.Shadows.slots l.shadows l.ram)) l.state.changes) page) ≡ true
+invariant-loop-page g l = (page : ℕ) → is_among page (take l.page-index l.page-items) ≡ true
+    → is_entry_open l.count l.side (get (changed (entries_of (g.S.Shadows.slots l.shadows l.ram)) l.state.changes) page) ≡ true

@@ -7,7 +7,8 @@ use Rattle.wedge_step.proofs.sight.are_bytes.Goals as goal
 pub returns-clause-bytes : goal.returns-clause-bytes
 returns-clause-bytes c =
     let a = c.args in
-    shown_fit (ground a.image.now a.frames) a.ram.now c.requires.frames c.requires.laid c.len-len.ensures.bytes (subst AreBytes c.text.ensures.text c.count-count.ensures.bytes)
+    shown_fit (ground a.image.now a.frames) a.ram.now c.requires.frames c.requires.laid c.len-len.ensures.bytes
+    (subst AreBytes c.text.ensures.text c.count-count.ensures.bytes)
 
 pub returns-clause-length : goal.returns-clause-length
 returns-clause-length c =

@@ -8,4 +8,5 @@ pub returns : goal.returns
 returns c =
     let a = c.args in
     c.read_laid.ensures
-    ∙ ap (λ l. byte l a.at) (shown_is (ground a.view.now.image.now a.view.now.frames) c.text.result.now 256 a.view.now.ram.now c.text.ensures.text refl)
+    ∙ ap (λ l. byte l a.at) (shown_is (ground a.view.now.image.now a.view.now.frames) c.text.result.now 256 a.view.now.ram.now
+    c.text.ensures.text refl)

@@ -21,7 +21,8 @@ returns-in-Some-clause-has_tables_under g c = λ indices all o. c.settle_or_drop
 pub returns-in-None-clause-whole : goal.returns-in-None-clause-whole
 returns-in-None-clause-whole g c = λ may.
     let whole = rw c.side_of-side.ensures at c.settle_or_drop-settled.ensures.whole in
-    absurd (both_ways (Rattle.std.specs.Prelude.is_none c.settle_or_drop-settled.result) (whole may).0 (ap Rattle.std.specs.Prelude.is_none c.in-None.is))
+    absurd (both_ways (Rattle.std.specs.Prelude.is_none c.settle_or_drop-settled.result) (whole may).0
+    (ap Rattle.std.specs.Prelude.is_none c.in-None.is))
 
 pub returns-in-Some-clause-whole : goal.returns-in-Some-clause-whole
 returns-in-Some-clause-whole g c = λ may.
@@ -56,17 +57,23 @@ pub returns-in-Some-clause-same : goal.returns-in-Some-clause-same
 returns-in-Some-clause-same g c = record { before = refl; reloaded = refl; same = refl }
 
 pub returns-in-None-clause-told : goal.returns-in-None-clause-told
-returns-in-None-clause-told g c = record { same_cr3 = c.settle_or_drop-settled.ensures.cr3; tells = λ after. absurd (let f : true ≡ false = after in cc) }
+returns-in-None-clause-told g c =
+    record { same_cr3 = c.settle_or_drop-settled.ensures.cr3; tells = λ after. absurd (let f : true ≡ false = after in cc) }
 
 pub returns-in-Some-clause-told : goal.returns-in-Some-clause-told
-returns-in-Some-clause-told g c = record { same_cr3 = c.settle_or_drop-settled.ensures.cr3; tells = λ after. c.settle_or_drop-settled.ensures.told (ap Rattle.std.specs.Prelude.is_none c.in-Some.is) }
+returns-in-Some-clause-told g c = record {
+  same_cr3 = c.settle_or_drop-settled.ensures.cr3;
+  tells = λ after. c.settle_or_drop-settled.ensures.told (ap Rattle.std.specs.Prelude.is_none c.in-Some.is);
+}
 
 pub returns-in-None-clause-counts : goal.returns-in-None-clause-counts
 returns-in-None-clause-counts g c = record {
-  counted = held_by _ _ _ _ _ _ _ (c.free.ensures.count c.args.ram.now) c.requires.under.counted (c.free-2.ensures.count c.settle_or_drop-settled.new.ram) c.settle_or_drop-settled.ensures.moved.moves.lengths;
+  counted = held_by _ _ _ _ _ _ _ (c.free.ensures.count c.args.ram.now) c.requires.under.counted
+      (c.free-2.ensures.count c.settle_or_drop-settled.new.ram) c.settle_or_drop-settled.ensures.moved.moves.lengths;
   fills = omega arith;
   exact = (0, omega arith, refl);
-  filled = let none = c.settle_or_drop-settled.ensures.fewer (ap Rattle.std.specs.Prelude.is_none c.in-None.is) in fills_fewer _ _ _ (omega (arith, none));
+  filled = let none =
+      c.settle_or_drop-settled.ensures.fewer (ap Rattle.std.specs.Prelude.is_none c.in-None.is) in fills_fewer _ _ _ (omega (arith, none));
 }
 
 pub returns-in-Some-clause-counts : goal.returns-in-Some-clause-counts
@@ -75,20 +82,24 @@ returns-in-Some-clause-counts g c =
     let few = e.few in
     let more = e.filled in
     record {
-      counted = held_by _ _ _ _ _ _ _ (c.free.ensures.count c.args.ram.now) c.requires.under.counted (c.free-2.ensures.count c.settle_or_drop-settled.new.ram) c.settle_or_drop-settled.ensures.moved.moves.lengths;
+      counted = held_by _ _ _ _ _ _ _ (c.free.ensures.count c.args.ram.now) c.requires.under.counted
+          (c.free-2.ensures.count c.settle_or_drop-settled.new.ram) c.settle_or_drop-settled.ensures.moved.moves.lengths;
       fills = omega (arith, few);
       exact = (
         c.in-Some.filled,
         omega arith,
-        subst (λ (side : Side). FillsIn g.S.Shadows side (stand c.args.running.now.shadows c.args.pool.now c.args.ram.now) c.args.state.now c.in-Some.filled) c.side_of-side.ensures e.exact,
+        subst (λ (side : Side). FillsIn g.S.Shadows side (stand c.args.running.now.shadows c.args.pool.now c.args.ram.now) c.args.state.now
+            c.in-Some.filled) c.side_of-side.ensures e.exact,
       );
       filled = record { rises = omega arith; enough = omega (arith, more) };
     }
 
 pub overflow_add-all : goal.overflow_add-all
-overflow_add-all g c = let fit = all_fit _ _ _ _ (c.free.ensures.count c.args.ram.now) c.requires.under.counted c.requires.under.few in omega (arith, fit)
+overflow_add-all g c = let fit =
+    all_fit _ _ _ _ (c.free.ensures.count c.args.ram.now) c.requires.under.counted c.requires.under.few in omega (arith, fit)
 
 pub overflow_sub-running : goal.overflow_sub-running
 overflow_sub-running g c =
-    let low = all_but _ _ _ _ _ _ _ (c.free.ensures.count c.args.ram.now) c.requires.under.counted (c.free-2.ensures.count c.settle_or_drop-settled.new.ram) c.settle_or_drop-settled.ensures.moved.moves.lengths in
+    let low = all_but _ _ _ _ _ _ _ (c.free.ensures.count c.args.ram.now) c.requires.under.counted
+    (c.free-2.ensures.count c.settle_or_drop-settled.new.ram) c.settle_or_drop-settled.ensures.moved.moves.lengths in
     omega (arith, low)

@@ -11,7 +11,8 @@ pub loop-k-preserved : goal.loop-k-preserved
 loop-k-preserved c =
     let xs = c.loop-k.self-inside.places in
     let small : c.loop-k.k < 64 = omega arith in
-    subst (λ (v : Option Entry). IsEmptied c.self.inside.places (set xs c.loop-k.k v) (c.loop-k.k + 1) c.args.index) (sym c.outside.ensures) (emptied_more c.self.inside.places xs c.loop-k.k c.args.index small c.loop-k.invariant)
+    subst (λ (v : Option Entry). IsEmptied c.self.inside.places (set xs c.loop-k.k v) (c.loop-k.k + 1) c.args.index) (sym c.outside.ensures)
+    (emptied_more c.self.inside.places xs c.loop-k.k c.args.index small c.loop-k.invariant)
 
 pub invariant_of-self : goal.invariant_of-self
 invariant_of-self c = c.loop-k.invariant.placed
@@ -19,5 +20,6 @@ invariant_of-self c = c.loop-k.invariant.placed
 pub returns : goal.returns
 returns c =
     let all : c.loop-k.k ≡ 64 = omega arith in
-    emptied_all c.self.inside.places c.loop-k.self-inside.places c.args.index (subst (λ (k : ℕ). IsEmptied c.self.inside.places c.loop-k.self-inside.places k c.args.index) all c.loop-k.invariant)
+    emptied_all c.self.inside.places c.loop-k.self-inside.places c.args.index
+    (subst (λ (k : ℕ). IsEmptied c.self.inside.places c.loop-k.self-inside.places k c.args.index) all c.loop-k.invariant)
     ∙ ap (λ m. without_dir m c.args.index) c.self.view_is

@@ -10,7 +10,8 @@ use Rattle.board.proofs.devices.Board.begin.Goals as goal
 
 pub loop-at-init : goal.loop-at-init
 loop-at-init c = record {
-  left = c.events_from-rest.ensures.same c.args.self.now ∙ ap (λ (zs : Events). given c.args.self.now zs c.args.step) (c.as_slice.ensures.value ∙ ap (λ (s : EventList). s.list) c.script.view_is);
+  left = c.events_from-rest.ensures.same c.args.self.now ∙ ap (λ (zs : Events). given c.args.self.now zs c.args.step)
+      (c.as_slice.ensures.value ∙ ap (λ (s : EventList). s.list) c.script.view_is);
   order = c.events_from-rest.ensures.order;
 }
 
@@ -18,7 +19,8 @@ pub loop-at-preserved : goal.loop-at-preserved
 loop-at-preserved c = record {
   left =
       ap (λ (b : Board). given b (drop (c.loop-at.at-index + 1) c.events_from-rest.result.now) c.args.step) c.happen.ensures
-      ∙ sym (given_one c.loop-at.self c.events_from-rest.result.now c.loop-at.at-index c.args.step (0, Rx 0) c.loop-at-test.true c.if-at-step.false)
+      ∙ sym (given_one c.loop-at.self c.events_from-rest.result.now c.loop-at.at-index c.args.step (0, Rx 0)
+      c.loop-at-test.true c.if-at-step.false)
       ∙ c.loop-at.invariant.left;
   order =
       ap (λ (low : ℕ). is_script_from low (drop (c.loop-at.at-index + 1) c.events_from-rest.result.now)) (sym c.if-at-step.false)

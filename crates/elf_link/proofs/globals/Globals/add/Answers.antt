@@ -10,5 +10,6 @@ pub returns : goal.returns
 returns c =
     rw (← c.self.view_is)
     (ap named c.in_ok-insert.ensures.entries
-    ∙ (named-insert c.self.inside.map.entries c.in_ok-bytes.bytes c.args.target (rw c.in_ok-bytes.ensures.items (ap (λ (gs : List (List ℕ × Target)). holds (keys gs) c.args.name.now) c.self.view_is ∙ c.requires))
+    ∙ (named-insert c.self.inside.map.entries c.in_ok-bytes.bytes c.args.target
+    (rw c.in_ok-bytes.ensures.items (ap (λ (gs : List (List ℕ × Target)). holds (keys gs) c.args.name.now) c.self.view_is ∙ c.requires))
     ∙ ap (λ (name : List ℕ). named c.self.inside.map.entries ++ (name, c.args.target) ∷ []) c.in_ok-bytes.ensures.items))

@@ -86,5 +86,6 @@ pub at_spec : {M : Type 1} → stated.statement M
 unfolding tables_of
 at_spec 𝓤 𝓛 𝓜 𝓡 wired O L g d met =
     let 𝓣 : Tables 𝓤 𝓛.H = tables_of 𝓤 𝓛.H 𝓜 (tables 𝓤 𝓛.H 𝓜 𝓡 𝓡.env) in
-    entered 𝓤 𝓛.H (triple_of 𝓛 (ended O g d).signature (closing 𝓛 (ended O g d) (held O g d 𝓛 𝓜.mem 𝓡.returns))) 𝓣.C 𝓣.Λ (#self (args O g d)) (function O g d)
+    entered 𝓤 𝓛.H (triple_of 𝓛 (ended O g d).signature (closing 𝓛 (ended O g d) (held O g d 𝓛 𝓜.mem 𝓡.returns))) 𝓣.C 𝓣.Λ
+    (#self (args O g d)) (function O g d)
     (code.unfolded 𝓤 𝓛.H 𝓜 𝓡 wired (O, tt) d) (meets O g d 𝓛 𝓜.mem 𝓡.returns 𝓣)

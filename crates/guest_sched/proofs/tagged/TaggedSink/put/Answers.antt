@@ -12,9 +12,12 @@ returns-in_err-len-clause-failed g c =
     let done = c.loop-rest.invariant.text in
     let line = c.in_err-len.ensures in
     rw p.1
-    (fails_in c.args.self.now.out.ghost_name c.put_line.new.self.out.ghost_name c.args.self.now.tag c.put_line.new.self.tag c.args.self.now.since.faults c.put_line.new.self.since.faults
-    c.args.self.now.since.taken c.put_line.new.self.since.taken c.args.self.now.since.text c.loop-rest.self.since.text c.put_line.new.self.since.text done.0 c.args.bytes.now c.loop-rest.rest.now (line_len c.loop-rest.rest.now)
-    (line.same_sink ∙ c.loop-rest.invariant.sink) (line.tag ∙ c.loop-rest.invariant.tag) (line.since.1 ∙ c.loop-rest.invariant.faults) (line.since.0 ∙ c.loop-rest.invariant.was)
+    (fails_in c.args.self.now.out.ghost_name c.put_line.new.self.out.ghost_name c.args.self.now.tag c.put_line.new.self.tag
+    c.args.self.now.since.faults c.put_line.new.self.since.faults
+    c.args.self.now.since.taken c.put_line.new.self.since.taken c.args.self.now.since.text c.loop-rest.self.since.text
+    c.put_line.new.self.since.text done.0 c.args.bytes.now c.loop-rest.rest.now (line_len c.loop-rest.rest.now)
+    (line.same_sink ∙ c.loop-rest.invariant.sink) (line.tag ∙ c.loop-rest.invariant.tag) (line.since.1 ∙ c.loop-rest.invariant.faults)
+    (line.since.0 ∙ c.loop-rest.invariant.was)
     done.2 line.text done.1)
 
 pub loop-rest-preserved : goal.loop-rest-preserved
@@ -41,5 +44,7 @@ returns-clause-ok g c =
     let i = c.loop-rest.invariant in
     let self = c.loop-rest.self in
     let old = c.args.self.now in
-    all_in old.out.ghost_name self.out.ghost_name old.tag self.tag old.since.faults self.since.faults old.since.taken self.since.taken old.since.text self.since.text i.text.0 c.args.bytes.now c.loop-rest.rest.now
-    i.sink i.tag i.faults i.was i.text.2 i.text.1 (nil_from_length c.loop-rest.rest.now (eqb-true (length c.loop-rest.rest.now) 0 (sym c.is_empty.ensures ∙ c.loop-rest-test.false)))
+    all_in old.out.ghost_name self.out.ghost_name old.tag self.tag old.since.faults self.since.faults old.since.taken self.since.taken
+    old.since.text self.since.text i.text.0 c.args.bytes.now c.loop-rest.rest.now
+    i.sink i.tag i.faults i.was i.text.2 i.text.1
+    (nil_from_length c.loop-rest.rest.now (eqb-true (length c.loop-rest.rest.now) 0 (sym c.is_empty.ensures ∙ c.loop-rest-test.false)))

@@ -15,7 +15,8 @@ returns-clause-released g c = let r = c.release.ensures.releases in record {
     entries = r.entries;
     other_roots = r.other_roots;
     same_cr3 = r.same_cr3;
-    filled = subst (WereFilled (pages_kept of_roots c.release.new.self.shadows (g.H.Host.bytes c.release.new.host))) (ap (λ (x : Running Roots). x.fills) r.running) r.filled;
+    filled = subst (WereFilled (pages_kept of_roots c.release.new.self.shadows (g.H.Host.bytes c.release.new.host)))
+        (ap (λ (x : Running Roots). x.fills) r.running) r.filled;
     moves = r.moves;
   };
   running = r.running;

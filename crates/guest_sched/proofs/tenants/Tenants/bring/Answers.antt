@@ -44,7 +44,8 @@ returns-clause-brought g c =
     let a = c.exchange.ensures.list d in
     let b = c.exchange-2.ensures.list d in
     let same : left.frames ≡ old.frames = c.exchange.ensures.rest.1 in
-    brought old.frames host mid (g.H.Host.bytes c.exchange-2.new.host) old.present c.args.kernel old.list.items left.list.items both.list.items d a.0 b.0
+    brought old.frames host mid (g.H.Host.bytes c.exchange-2.new.host) old.present c.args.kernel old.list.items left.list.items
+    both.list.items d a.0 b.0
     c.if-kernel-self.false c.requires.known c.requires.present c.requires.theirs c.requires.room
     a.1 a.2 a.3 a.4 a.5 (c.exchange.ensures.host d)
     b.1 b.3 b.4 b.5

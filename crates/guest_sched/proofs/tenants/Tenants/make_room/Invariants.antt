@@ -18,10 +18,16 @@ invariant-loop-kernel g l = record {
   present : l.self.present ≡ l.fn.self.present;
   theirs : All (λ (t : Tenant). 4096 * l.self.frames ≤ length t.ram) l.self.list.items;
   count : count_of l.self.pool ≡ 512;
-  apart : (kernels : List Kernel) → length kernels ≡ length l.fn.self.list.items → AreApart l.fn.self.frames l.fn.self.pool (g.H.Host.bytes l.fn.host) (seats_from l.fn.self.frames (g.H.Host.bytes l.fn.host) l.fn.self.present 0 kernels l.fn.self.list.items)
-      → AreApart l.self.frames l.self.pool (g.H.Host.bytes l.host) (seats_from l.self.frames (g.H.Host.bytes l.host) l.self.present 0 kernels l.self.list.items);
-  stay : (kernels : List Kernel) → length kernels ≡ length l.fn.self.list.items → AreApart l.fn.self.frames l.fn.self.pool (g.H.Host.bytes l.fn.host) (seats_from l.fn.self.frames (g.H.Host.bytes l.fn.host) l.fn.self.present 0 kernels l.fn.self.list.items)
-      → EachStays l.fn.self.frames (seats_from l.fn.self.frames (g.H.Host.bytes l.fn.host) l.fn.self.present 0 kernels l.fn.self.list.items) (seats_from l.fn.self.frames (g.H.Host.bytes l.host) l.fn.self.present 0 kernels l.self.list.items);
+  apart : (kernels : List Kernel) → length kernels ≡ length l.fn.self.list.items
+      → AreApart l.fn.self.frames l.fn.self.pool (g.H.Host.bytes l.fn.host)
+      (seats_from l.fn.self.frames (g.H.Host.bytes l.fn.host) l.fn.self.present 0 kernels l.fn.self.list.items)
+      → AreApart l.self.frames l.self.pool (g.H.Host.bytes l.host)
+      (seats_from l.self.frames (g.H.Host.bytes l.host) l.self.present 0 kernels l.self.list.items);
+  stay : (kernels : List Kernel) → length kernels ≡ length l.fn.self.list.items
+      → AreApart l.fn.self.frames l.fn.self.pool (g.H.Host.bytes l.fn.host)
+      (seats_from l.fn.self.frames (g.H.Host.bytes l.fn.host) l.fn.self.present 0 kernels l.fn.self.list.items)
+      → EachStays l.fn.self.frames (seats_from l.fn.self.frames (g.H.Host.bytes l.fn.host) l.fn.self.present 0 kernels l.fn.self.list.items)
+      (seats_from l.fn.self.frames (g.H.Host.bytes l.host) l.fn.self.present 0 kernels l.self.list.items);
   size : length (g.H.Host.bytes l.host) ≡ length (g.H.Host.bytes l.fn.host);
   made : HasMadeRoom l.fn.self.present l.fn.self.list.items l.self.list.items;
   first : FirstGiveWay l.kernel (stage l.fn.self (g.H.Host.bytes l.fn.host)) (stage l.self (g.H.Host.bytes l.host));

@@ -11,7 +11,9 @@ returns-in-Ok-clause-admitted g c =
     let pool = c.new-pool.result in
     let ram = c.new-pool.new.ram in
     let there : length ram ≡ (n + 512) * 4096 =
-    c.new-pool.ensures.len ∙ ap length c.ram_mut.ensures.ram ∙ ap length c.in-Ok.ensures.bytes ∙ length-replicate {A = ℕ} ((n + 512) * 4096) 0 in
+    c.new-pool.ensures.len ∙ ap length c.ram_mut.ensures.ram ∙ ap length c.in-Ok.ensures.bytes
+    ∙ length-replicate {A = ℕ} ((n + 512) * 4096) 0 in
     subst (λ (m : List ℕ). IsAdmitted [] n c.new.result.items pool 0 m) (sym (g.met.H.Host.bytes_changed c.start.new.self ram))
     (subst (λ (l : List Tenant). IsAdmitted [] n l pool 0 ram) (sym c.new.ensures.items)
-    (none_admitted n pool ram c.new-pool.ensures.list c.new-pool.ensures.stands c.new-pool.ensures.frames.0 c.new-pool.ensures.frames.1 (omega (arith, there))))
+    (none_admitted n pool ram c.new-pool.ensures.list c.new-pool.ensures.stands c.new-pool.ensures.frames.0 c.new-pool.ensures.frames.1
+    (omega (arith, there))))

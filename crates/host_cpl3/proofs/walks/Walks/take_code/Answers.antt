@@ -11,5 +11,7 @@ returns-clause-kept c =
     let w = c.kept_data-entry.new.self in
     let K : ℕ → Entry → Type 0 = λ q x. IsKeptWithin w a.ram.now a.root q x (slice_index w.tables (a.page % 64)) in (
       c.kept_data-entry.ensures.kept.0,
-      last_kept K c.kept_data-entry.result a.page (subst (λ (o : Option Entry). IfSome o (K a.page)) (sym c.kept_data-entry.ensures.held) (c.kept_data-entry.ensures.kept.0 a.page)),
+      last_kept K c.kept_data-entry.result a.page
+          (subst (λ (o : Option Entry). IfSome o (K a.page)) (sym c.kept_data-entry.ensures.held)
+          (c.kept_data-entry.ensures.kept.0 a.page)),
     )

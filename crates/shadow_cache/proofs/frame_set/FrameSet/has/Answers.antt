@@ -10,7 +10,8 @@ returns-in-Some-clause-is c =
     let e : 64 * (f / 64) + f % 64 ≡ f = omega arith in
     let there : c.in-Some.word.now ≡ get_or ws (f / 64) 0 = search rules in
     ap (λ w. nat_eq (w / 2 ^ (f % 64) % 2) 1) there
-    ∙ sym (spread-get ws (f / 64) (f % 64) (omega arith)) ∙ ap (λ k. get_or (spread ws) k false) e ∙ ap (λ s. get_or s f false) c.self.view_is
+    ∙ sym (spread-get ws (f / 64) (f % 64) (omega arith)) ∙ ap (λ k. get_or (spread ws) k false) e
+    ∙ ap (λ s. get_or s f false) c.self.view_is
 
 pub returns-in-None-clause-is : goal.returns-in-None-clause-is
 returns-in-None-clause-is c =

@@ -9,6 +9,7 @@ returns c =
     let ws = c.self.inside.words in let f = c.args.frame in let v = get_or ws (f / 64) 0 in
     let size : length ws ≡ 256 = search rules in let most : f < 16384 = c.requires in
     let e : 64 * (f / 64) + f % 64 ≡ f = omega arith in
-    one-changed ws (f / 64) (f % 64) (bit_and v (18446744073709551615 - 1 * 2 ^ (f % 64) % 2 ^ 64)) false (omega (arith, size, most)) (omega arith)
+    one-changed ws (f / 64) (f % 64) (bit_and v (18446744073709551615 - 1 * 2 ^ (f % 64) % 2 ^ 64)) false
+    (omega (arith, size, most)) (omega arith)
     (ap (λ b. nat_eq b 1) (bit_at_clear_same w64 v (f % 64) (omega arith))) (λ i l n. bit_at_clear_other w64 v (f % 64) (omega arith) i l n)
     ∙ ap (λ k. set (spread ws) k false) e ∙ ap (λ s. set s f false) c.self.view_is

@@ -17,7 +17,8 @@ bounds-deref-i c =
 pub index-requires : goal.index-requires
 index-requires c =
     let l = within c.self.inside.slab c.self.inside.order.items c.args.self.now c.args.i c.self.invariant c.self.view_is c.requires in
-    subst (λ (xs : List ℕ). IsSome (get c.self.inside.slab (get_or xs c.args.i 0))) (sym c.deref.ensures.0) (there-at c.self.inside.slab c.self.inside.order.items c.args.i c.self.invariant.there l)
+    subst (λ (xs : List ℕ). IsSome (get c.self.inside.slab (get_or xs c.args.i 0))) (sym c.deref.ensures.0)
+    (there-at c.self.inside.slab c.self.inside.order.items c.args.i c.self.invariant.there l)
 
 pub returns : goal.returns
 returns c =

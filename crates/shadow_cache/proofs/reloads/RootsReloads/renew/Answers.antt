@@ -15,7 +15,8 @@ use Rattle.shadow_cache.proofs.reloads.RootsReloads.renew.Goals as goal
 pub returns-clause-sight : goal.returns-clause-sight
 returns-clause-sight c =
     let r = c.args.self.now in let n = c.drop_all.new in let e = c.drop_all.ensures in
-    same_seen _ _ (no_pages _ e.none) (fun_ext (λ f. ap (λ (ps : List Pair). noted_of ps f) e.pairs ∙ no-reads f)) (ap mark_of e.pairs) (emptied-value r.present r.others (pairs_of n.self) e.pairs)
+    same_seen _ _ (no_pages _ e.none) (fun_ext (λ f. ap (λ (ps : List Pair). noted_of ps f) e.pairs ∙ no-reads f)) (ap mark_of e.pairs)
+    (emptied-value r.present r.others (pairs_of n.self) e.pairs)
     (ap of_roots (none-beside r.present r.others (pairs_of n.self) n.ram e.pairs))
 
 pub returns-clause-known : goal.returns-clause-known
@@ -27,8 +28,10 @@ returns-clause-known c = let r = c.args.self.now in record {
 }
 
 pub returns-clause-other_roots : goal.returns-clause-other_roots
-returns-clause-other_roots c = let r = c.args.self.now in none-beside r.present r.others (pairs_of c.drop_all.new.self) c.drop_all.new.ram c.drop_all.ensures.pairs
+returns-clause-other_roots c = let r =
+    c.args.self.now in none-beside r.present r.others (pairs_of c.drop_all.new.self) c.drop_all.new.ram c.drop_all.ensures.pairs
 
 pub returns-clause-has_tables_under : goal.returns-clause-has_tables_under
 returns-clause-has_tables_under c = λ indices.
-    let r = c.args.self.now in renewed-has_tables_under indices r.present r.others (pairs_of c.drop_all.new.self) c.drop_all.new.ram c.drop_all.ensures.pairs c.drop_all.ensures.two
+    let r = c.args.self.now in renewed-has_tables_under indices r.present r.others (pairs_of c.drop_all.new.self) c.drop_all.new.ram
+    c.drop_all.ensures.pairs c.drop_all.ensures.two

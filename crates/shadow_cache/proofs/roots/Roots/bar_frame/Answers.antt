@@ -21,12 +21,17 @@ bar_all-requires-clause-holds c =
 
 pub returns : goal.returns
 returns c =
-    let r = c.args.self.now in let m = c.args.ram.now in let h = (stood r m c.requires.stands).roots in let e = c.bar.ensures in let b = c.bar_all.ensures in let n = c.bar_all.new.ram in
+    let r = c.args.self.now in let m = c.args.ram.now in let h = (stood r m c.requires.stands).roots in let e = c.bar.ensures in
+    let b = c.bar_all.ensures in let n = c.bar_all.new.ram in
     record {
-      shadows = bar-both r.present r.others m c.bar.new.ram n c.args.frame h e.shadow e.loses e.held e.memory b.shadows b.frames b.loses b.memory;
-      loses = bar-loses r.present r.others m c.bar.new.ram n c.args.frame h e.shadow e.loses e.held e.memory b.shadows b.frames b.loses b.memory e.tables;
-      frames = bar-frames r.present r.others m c.bar.new.ram n c.args.frame h e.shadow e.loses e.held e.memory b.shadows b.frames b.loses b.memory;
-      memory = bar-memory r.present r.others m c.bar.new.ram n c.args.frame h e.shadow e.loses e.held e.memory b.shadows b.frames b.loses b.memory;
+      shadows =
+          bar-both r.present r.others m c.bar.new.ram n c.args.frame h e.shadow e.loses e.held e.memory b.shadows b.frames b.loses b.memory;
+      loses = bar-loses r.present r.others m c.bar.new.ram n c.args.frame h e.shadow e.loses e.held e.memory b.shadows b.frames
+          b.loses b.memory e.tables;
+      frames = bar-frames r.present r.others m c.bar.new.ram n c.args.frame h e.shadow e.loses e.held e.memory b.shadows
+          b.frames b.loses b.memory;
+      memory = bar-memory r.present r.others m c.bar.new.ram n c.args.frame h e.shadow e.loses e.held e.memory b.shadows
+          b.frames b.loses b.memory;
     }
 
 pub returns-then-has : goal.returns-then-has
@@ -34,7 +39,8 @@ returns-then-has c =
     let r = c.args.self.now in let m = c.args.ram.now in let h = (stood r m c.requires.stands).roots in
     record {
       shadows = h.shadows;
-      loses = all-barred (is_barred r) c.args.frame (pairs_of r) m (sym c.has.ensures.is ∙ c.if-has.true) (stood r m c.requires.stands).barred;
+      loses =
+          all-barred (is_barred r) c.args.frame (pairs_of r) m (sym c.has.ensures.is ∙ c.if-has.true) (stood r m c.requires.stands).barred;
       frames = refl;
       memory = Writes-refl (frames_of (pairs_of r) m) m;
     }

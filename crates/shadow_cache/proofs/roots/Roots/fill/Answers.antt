@@ -16,19 +16,23 @@ hold-requires-clause-shadow c = (stood c.args.self.now c.args.ram.now c.requires
 pub hold-requires-clause-owns : goal.hold-requires-clause-owns
 hold-requires-clause-owns c =
     let r = c.args.self.now in
-    present-owns c.args.pool.now c.args.pool.now r.present r.others c.args.ram.now c.args.ram.now (stood r c.args.ram.now c.requires.stands).roots c.requires.owns
+    present-owns c.args.pool.now c.args.pool.now r.present r.others c.args.ram.now c.args.ram.now
+    (stood r c.args.ram.now c.requires.stands).roots c.requires.owns
 
 pub returns-clause-stands : goal.returns-clause-stands
 returns-clause-stands c =
-    let r = c.args.self.now in let m = c.args.ram.now in let n = c.hold.new.ram in let s = stood r m c.requires.stands in let h = s.roots in let e = c.hold.ensures in
+    let r = c.args.self.now in let m =
+    c.args.ram.now in let n = c.hold.new.ram in let s = stood r m c.requires.stands in let h = s.roots in let e = c.hold.ensures in
     let b = c.is_write_protected-barred.result in let f = slot_at r.present.shadow m in let f' = slot_at r.present.shadow n in
     let goes = c.is_writable-writes.result in
     let kept = move-kept c.args.pool.now c.hold.new.pool r.present r.others m n h c.requires.owns e.becomes.shadow e.moves in
     merely (record {
       roots = move-roots c.args.pool.now c.hold.new.pool r.present r.others m n h c.requires.owns e.becomes.shadow e.moves
-          (bars-filled (any_reads (pairs_of r)) f f' b c.args.side c.args.entry c.args.wp c.is_write_protected-barred.ensures h.barred.0 e.becomes.there e.becomes.others);
+          (bars-filled (any_reads (pairs_of r)) f f' b c.args.side c.args.entry c.args.wp c.is_write_protected-barred.ensures h.barred.0
+          e.becomes.there e.becomes.others);
       barred = subst (λ (bits : List Bool). AllBarWrites (listed bits) (pairs_of r) n) (sym c.remove_if.ensures) (
-        bars-given goes r.barred f f' b c.args.side c.args.entry c.args.wp c.is_writable-writes.ensures s.barred.0 e.becomes.there e.becomes.others,
+        bars-given goes r.barred f f' b c.args.side c.args.entry c.args.wp c.is_writable-writes.ensures s.barred.0
+            e.becomes.there e.becomes.others,
         all-given goes r.barred c.args.entry.frame r.others m n kept s.barred.1,
       );
     })
@@ -38,7 +42,8 @@ returns-clause-fills c =
     let r = c.args.self.now in let e = c.hold.ensures.becomes in
     record {
       turns = record {
-        there = e.there ∙ ap (λ b. Some (filled b c.args.side c.args.entry c.args.wp)) (c.is_write_protected-barred.ensures ∙ sym (tables-any (pairs_of r) c.args.entry.frame));
+        there = e.there ∙ ap (λ b. Some (filled b c.args.side c.args.entry c.args.wp))
+            (c.is_write_protected-barred.ensures ∙ sym (tables-any (pairs_of r) c.args.entry.frame));
         others = e.others;
       };
       entries = c.hold.ensures.entries;
@@ -46,20 +51,24 @@ returns-clause-fills c =
 
 pub returns-clause-owns : goal.returns-clause-owns
 returns-clause-owns c =
-    let r = c.args.self.now in let m = c.args.ram.now in let n = c.hold.new.ram in let h = (stood r m c.requires.stands).roots in let e = c.hold.ensures in
+    let r = c.args.self.now in let m =
+    c.args.ram.now in let n = c.hold.new.ram in let h = (stood r m c.requires.stands).roots in let e = c.hold.ensures in
     move-owns c.args.pool.now c.hold.new.pool r.present r.others m n h c.requires.owns e.becomes.shadow e.moves
 
 pub returns-clause-moves : goal.returns-clause-moves
 returns-clause-moves c =
-    let r = c.args.self.now in let m = c.args.ram.now in let n = c.hold.new.ram in let h = (stood r m c.requires.stands).roots in let e = c.hold.ensures in
+    let r = c.args.self.now in let m =
+    c.args.ram.now in let n = c.hold.new.ram in let h = (stood r m c.requires.stands).roots in let e = c.hold.ensures in
     move-moves c.args.pool.now c.hold.new.pool r.present r.others m n h c.requires.owns e.becomes.shadow e.moves
 
 pub returns-clause-same : goal.returns-clause-same
 returns-clause-same c =
-    let r = c.args.self.now in let m = c.args.ram.now in let n = c.hold.new.ram in let h = (stood r m c.requires.stands).roots in let e = c.hold.ensures in
+    let r = c.args.self.now in let m =
+    c.args.ram.now in let n = c.hold.new.ram in let h = (stood r m c.requires.stands).roots in let e = c.hold.ensures in
     (refl, move-kept c.args.pool.now c.hold.new.pool r.present r.others m n h c.requires.owns e.becomes.shadow e.moves)
 
 pub returns-clause-told : goal.returns-clause-told
 returns-clause-told c = λ value calls a.
     let r = c.args.self.now in
-    step-fill value calls c.args.side c.args.entry c.args.wp r.present r.others c.args.ram.now c.hold.new.ram c.requires.fits.0 (returns-clause-same c).1 (returns-clause-fills c).turns c.hold.ensures.table a
+    step-fill value calls c.args.side c.args.entry c.args.wp r.present r.others c.args.ram.now c.hold.new.ram c.requires.fits.0
+    (returns-clause-same c).1 (returns-clause-fills c).turns c.hold.ensures.table a

@@ -15,15 +15,18 @@ returns-clause-stands c =
     let e = c.new-present.ensures in
     merely (record {
       roots = fresh-roots c.new-present.result c.in_ok-others.others c.new-present.new.ram c.in_ok-others.ensures e.empty e.tables;
-      barred = fresh-barred (λ frame. get_or c.full-barred.result frame false) c.new-present.result c.in_ok-others.others c.new-present.new.ram c.in_ok-others.ensures e.empty;
+      barred = fresh-barred (λ frame. get_or c.full-barred.result frame false) c.new-present.result c.in_ok-others.others
+          c.new-present.new.ram c.in_ok-others.ensures e.empty;
     })
 
 pub returns-clause-owns : goal.returns-clause-owns
-returns-clause-owns c = subst (Owns c.new-present.new.pool c.new-present.new.ram) (sym (alone-frames c.new-present.result c.in_ok-others.others c.new-present.new.ram c.in_ok-others.ensures)) c.new-present.ensures.owns
+returns-clause-owns c = subst (Owns c.new-present.new.pool c.new-present.new.ram)
+    (sym (alone-frames c.new-present.result c.in_ok-others.others c.new-present.new.ram c.in_ok-others.ensures)) c.new-present.ensures.owns
 
 pub returns-clause-moves : goal.returns-clause-moves
 returns-clause-moves c =
-    subst (Moves c.args.pool.now c.new-present.new.pool c.args.ram.now c.new-present.new.ram []) (sym (alone-frames c.new-present.result c.in_ok-others.others c.new-present.new.ram c.in_ok-others.ensures)) c.new-present.ensures.moves
+    subst (Moves c.args.pool.now c.new-present.new.pool c.args.ram.now c.new-present.new.ram [])
+    (sym (alone-frames c.new-present.result c.in_ok-others.others c.new-present.new.ram c.in_ok-others.ensures)) c.new-present.ensures.moves
 
 pub returns-clause-starts : goal.returns-clause-starts
 returns-clause-starts c =
@@ -48,4 +51,5 @@ pub returns-clause-alone : goal.returns-clause-alone
 returns-clause-alone c = ap (λ (ps : List Pair). other_roots_of ps c.new-present.new.ram) c.in_ok-others.ensures
 
 pub returns-clause-has_tables_under : goal.returns-clause-has_tables_under
-returns-clause-has_tables_under c = λ indices. start-has_tables_under indices c.new-present.result c.in_ok-others.others c.new-present.new.ram c.in_ok-others.ensures c.new-present.ensures.empty
+returns-clause-has_tables_under c = λ indices. start-has_tables_under indices c.new-present.result c.in_ok-others.others
+    c.new-present.new.ram c.in_ok-others.ensures c.new-present.ensures.empty

@@ -13,9 +13,12 @@ pub returns-clause-sight : goal.returns-clause-sight
 returns-clause-sight c =
     let r = c.args.self.now in let n = c.written.new in let e = c.written.ensures in
     same_seen _ _ (same_pages _ _ e.slots.0)
-    (fun_ext (written_reads r.present r.others (pairs_of n.self) c.args.frame e.pairs (unread (pairs_of n.self) c.args.frame (sym (tables-any (pairs_of n.self) c.args.frame) ∙ e.frees.1))))
-    (written-stale r.present r.others (pairs_of n.self) c.args.frame e.pairs) (written-value r.present r.others (pairs_of n.self) c.args.frame e.pairs)
-    (same_roots _ _ (others-spared r.present r.others (pairs_of n.self) c.args.ram.now n.ram c.args.frame e.pairs e.kept) ∙ spared_roots c.args.frame (other_roots_of r.others c.args.ram.now))
+    (fun_ext (written_reads r.present r.others (pairs_of n.self) c.args.frame e.pairs
+    (unread (pairs_of n.self) c.args.frame (sym (tables-any (pairs_of n.self) c.args.frame) ∙ e.frees.1))))
+    (written-stale r.present r.others (pairs_of n.self) c.args.frame e.pairs)
+    (written-value r.present r.others (pairs_of n.self) c.args.frame e.pairs)
+    (same_roots _ _ (others-spared r.present r.others (pairs_of n.self) c.args.ram.now n.ram c.args.frame e.pairs e.kept) ∙ spared_roots
+    c.args.frame (other_roots_of r.others c.args.ram.now))
 
 pub returns-clause-known : goal.returns-clause-known
 returns-clause-known c = let r = c.args.self.now in record {
@@ -29,9 +32,11 @@ returns-clause-known c = let r = c.args.self.now in record {
 
 pub returns-clause-other_roots : goal.returns-clause-other_roots
 returns-clause-other_roots c =
-    let r = c.args.self.now in others-spared r.present r.others (pairs_of c.written.new.self) c.args.ram.now c.written.new.ram c.args.frame c.written.ensures.pairs c.written.ensures.kept
+    let r = c.args.self.now in others-spared r.present r.others (pairs_of c.written.new.self) c.args.ram.now c.written.new.ram c.args.frame
+    c.written.ensures.pairs c.written.ensures.kept
 
 pub returns-clause-has_tables_under : goal.returns-clause-has_tables_under
 returns-clause-has_tables_under c = λ indices h.
     let r = c.args.self.now in
-    written-has_tables_under indices r.present r.others (pairs_of c.written.new.self) c.args.ram.now c.written.new.ram c.args.frame c.written.ensures.pairs c.written.ensures.kept h
+    written-has_tables_under indices r.present r.others (pairs_of c.written.new.self) c.args.ram.now c.written.new.ram c.args.frame
+    c.written.ensures.pairs c.written.ensures.kept h

@@ -20,8 +20,10 @@ loop-index-preserved c =
     let e = c.next_opened-index-in-loop-index.ensures in
     let behind = e.behind in
     record {
-      swept = bars-over s m n 0 (1024 * l.index + 1024) (1024 * c.next_opened-index-in-loop-index.result) c.args.frame (omega arith) (omega (arith, behind))
-          (bars-trans s m l.ram n 0 (1024 * l.index) (1024 * l.index + 1024) c.args.frame (omega arith) (omega arith) l.invariant.swept c.bar_dir.ensures)
+      swept = bars-over s m n 0 (1024 * l.index + 1024) (1024 * c.next_opened-index-in-loop-index.result) c.args.frame (omega arith)
+          (omega (arith, behind))
+          (bars-trans s m l.ram n 0 (1024 * l.index) (1024 * l.index + 1024) c.args.frame (omega arith) (omega arith)
+          l.invariant.swept c.bar_dir.ensures)
           (λ page lt low high. none-without s n c.args.frame page (e.none page lt (omega (arith, low)) high));
       within = e.within;
     }

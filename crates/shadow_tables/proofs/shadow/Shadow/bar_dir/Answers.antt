@@ -22,8 +22,10 @@ loop-word-preserved c =
     let next = c.next_to_bar-word-in-loop-word.ensures in
     let behind = next.behind in
     record {
-      swept = bars-over s m n first (first + l.word + 1) (first + c.next_to_bar-word-in-loop-word.result) c.args.frame (omega arith) (omega (arith, behind))
-          (bars-more s m l.ram n first (first + l.word) c.args.frame (omega arith) (omega arith) l.invariant.swept e.becomes e.held e.memory e.tables)
+      swept = bars-over s m n first (first + l.word + 1) (first + c.next_to_bar-word-in-loop-word.result) c.args.frame (omega arith)
+          (omega (arith, behind))
+          (bars-more s m l.ram n first (first + l.word) c.args.frame (omega arith) (omega arith) l.invariant.swept e.becomes
+          e.held e.memory e.tables)
           (λ page lt low high. next.none page lt (omega (arith, low)) high);
       within = next.within;
     }

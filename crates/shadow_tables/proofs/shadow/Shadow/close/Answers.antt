@@ -13,15 +13,19 @@ first-in f fs = let c = times-cons f f fs in let h = hit-self f in omega (arith,
 pub give-requires-clause-out : goal.give-requires-clause-out
 give-requires-clause-out c =
     let s = c.args.self in let e = c.drop_all.ensures in
-    let o : Owns c.drop_all.new.pool c.drop_all.new.ram (s.kernel ∷ s.user ∷ []) = subst (Owns c.drop_all.new.pool c.drop_all.new.ram) e.empty.frames e.owns in
-    subst (IsOut c.drop_all.new.pool c.drop_all.new.ram) (sym (ap (λ x. x.kernel) e.same)) (o.out s.kernel (first-in s.kernel (s.user ∷ [])))
+    let o : Owns c.drop_all.new.pool c.drop_all.new.ram (s.kernel ∷ s.user ∷ []) =
+    subst (Owns c.drop_all.new.pool c.drop_all.new.ram) e.empty.frames e.owns in
+    subst (IsOut c.drop_all.new.pool c.drop_all.new.ram) (sym (ap (λ x. x.kernel) e.same))
+    (o.out s.kernel (first-in s.kernel (s.user ∷ [])))
 
 pub give-requires-2-clause-out : goal.give-requires-2-clause-out
 give-requires-2-clause-out c =
     let s = c.args.self in let e = c.drop_all.ensures in let g = c.give.ensures in
-    let o : Owns c.drop_all.new.pool c.drop_all.new.ram (s.kernel ∷ s.user ∷ []) = subst (Owns c.drop_all.new.pool c.drop_all.new.ram) e.empty.frames e.owns in
+    let o : Owns c.drop_all.new.pool c.drop_all.new.ram (s.kernel ∷ s.user ∷ []) =
+    subst (Owns c.drop_all.new.pool c.drop_all.new.ram) e.empty.frames e.owns in
     let same = e.same in
-    let v = Moves-give c.drop_all.new.pool c.give.new.self c.drop_all.new.ram c.give.new.ram (s.user ∷ []) s.kernel (rw same at g.list) g.stands g.frames (rw same at g.memory) in
+    let v = Moves-give c.drop_all.new.pool c.give.new.self c.drop_all.new.ram c.give.new.ram (s.user ∷ []) s.kernel (rw same at g.list)
+    g.stands g.frames (rw same at g.memory) in
     let p = Owns-moves c.drop_all.new.pool c.give.new.self c.drop_all.new.ram c.give.new.ram (s.kernel ∷ s.user ∷ []) (s.user ∷ []) o v in
     subst (IsOut c.give.new.self c.give.new.ram) (sym (ap (λ x. x.user) same)) (p.out s.user (first-in s.user []))
 
@@ -32,9 +36,13 @@ returns c =
     let a : Moves c.args.pool.now c.drop_all.new.pool c.args.ram.now c.drop_all.new.ram (held s c.args.ram.now) (s.kernel ∷ s.user ∷ []) =
     subst (Moves c.args.pool.now c.drop_all.new.pool c.args.ram.now c.drop_all.new.ram (held s c.args.ram.now)) e.empty.frames e.moves
     in
-    let v = Moves-give c.drop_all.new.pool c.give.new.self c.drop_all.new.ram c.give.new.ram (s.user ∷ []) s.kernel (rw same at g.list) g.stands g.frames (rw same at g.memory) in
-    let w = Moves-give c.give.new.self c.give-2.new.self c.give.new.ram c.give-2.new.ram [] s.user (rw same at h.list) h.stands h.frames (rw same at h.memory) in
+    let v = Moves-give c.drop_all.new.pool c.give.new.self c.drop_all.new.ram c.give.new.ram (s.user ∷ []) s.kernel (rw same at g.list)
+    g.stands g.frames (rw same at g.memory) in
+    let w = Moves-give c.give.new.self c.give-2.new.self c.give.new.ram c.give-2.new.ram [] s.user (rw same at h.list) h.stands h.frames
+    (rw same at h.memory) in
     record {
-      moves = Moves-trans c.args.pool.now c.drop_all.new.pool c.give-2.new.self c.args.ram.now c.drop_all.new.ram c.give-2.new.ram (held s c.args.ram.now) (s.kernel ∷ s.user ∷ []) [] a
-          (Moves-trans c.drop_all.new.pool c.give.new.self c.give-2.new.self c.drop_all.new.ram c.give.new.ram c.give-2.new.ram (s.kernel ∷ s.user ∷ []) (s.user ∷ []) [] v w);
+      moves = Moves-trans c.args.pool.now c.drop_all.new.pool c.give-2.new.self c.args.ram.now c.drop_all.new.ram c.give-2.new.ram
+          (held s c.args.ram.now) (s.kernel ∷ s.user ∷ []) [] a
+          (Moves-trans c.drop_all.new.pool c.give.new.self c.give-2.new.self c.drop_all.new.ram c.give.new.ram c.give-2.new.ram
+          (s.kernel ∷ s.user ∷ []) (s.user ∷ []) [] v w);
     }

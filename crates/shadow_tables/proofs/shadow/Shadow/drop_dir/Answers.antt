@@ -13,16 +13,19 @@ loop-word-init c =
     let e = c.next_kept-word.ensures in
     record {
       same = refl;
-      sweeps = sweeps-over s m m first first (first + c.next_kept-word.result) (λ page. None) (sweeps-none s m first (λ page. None) c.requires.shadow) (omega arith) (omega arith)
+      sweeps = sweeps-over s m m first first (first + c.next_kept-word.result) (λ page. None)
+          (sweeps-none s m first (λ page. None) c.requires.shadow) (omega arith) (omega arith)
           (λ page l low high. e.none page l (omega (arith, low)) high);
       within = e.within;
     }
 
 pub drop_page-requires-clause-shadow : goal.drop_page-requires-clause-shadow
-drop_page-requires-clause-shadow c = subst (λ s. IsShadow s c.loop-word.ram) (sym c.loop-word.invariant.same) c.loop-word.invariant.sweeps.shadow
+drop_page-requires-clause-shadow c =
+    subst (λ s. IsShadow s c.loop-word.ram) (sym c.loop-word.invariant.same) c.loop-word.invariant.sweeps.shadow
 
 pub next_kept-word-requires-in-loop-word-clause-shadow : goal.next_kept-word-requires-in-loop-word-clause-shadow
-next_kept-word-requires-in-loop-word-clause-shadow c = subst (λ s. IsShadow s c.drop_page.new.ram) (sym c.drop_page.ensures.same) c.drop_page.ensures.becomes.shadow
+next_kept-word-requires-in-loop-word-clause-shadow c =
+    subst (λ s. IsShadow s c.drop_page.new.ram) (sym c.drop_page.ensures.same) c.drop_page.ensures.becomes.shadow
 
 pub loop-word-preserved : goal.loop-word-preserved
 loop-word-preserved c =
@@ -32,14 +35,16 @@ loop-word-preserved c =
     let same = l.invariant.same in
     let step : Sweeps s m n first (first + l.word + 1) (λ page. None) =
     sweeps-more s m l.ram n first (first + l.word) (λ page. None) None (omega arith) l.invariant.sweeps
-    (rw same at becomes) refl (rw same at c.drop_page.ensures.held) (rw same at c.drop_page.ensures.memory) (rw same at c.drop_page.ensures.tables)
+    (rw same at becomes) refl (rw same at c.drop_page.ensures.held) (rw same at c.drop_page.ensures.memory)
+    (rw same at c.drop_page.ensures.tables)
     in
     let still : c.drop_page.new.self ≡ s = c.drop_page.ensures.same ∙ same in
     let next = c.next_kept-word-in-loop-word.ensures in
     let behind = next.behind in
     record {
       same = still;
-      sweeps = sweeps-over s m n first (first + l.word + 1) (first + c.next_kept-word-in-loop-word.result) (λ page. None) step (omega (arith, behind)) (omega arith)
+      sweeps = sweeps-over s m n first (first + l.word + 1) (first + c.next_kept-word-in-loop-word.result) (λ page. None) step
+          (omega (arith, behind)) (omega arith)
           (λ page lt low high.
           sym (step.others page lt (λ x y. absurd (omega (arith, y, low))))
           ∙ subst (λ (t : Shadow). slot_at t n page ≡ None) still (next.none page lt (omega (arith, low)) high));
@@ -50,10 +55,13 @@ pub returns-clause-shadow : goal.returns-clause-shadow
 returns-clause-shadow c = c.loop-word.invariant.sweeps.shadow
 
 pub returns-clause-loses : goal.returns-clause-loses
-returns-clause-loses c = loses-dir c.args.self.now c.args.ram.now c.loop-word.ram c.args.index (let a = c.loop-word.invariant.sweeps in let within = c.loop-word.invariant.within in let test = c.loop-word-test.false in let e : c.loop-word.word ≡ 1024 = omega (arith, within, test) in rw e at a)
+returns-clause-loses c = loses-dir c.args.self.now c.args.ram.now c.loop-word.ram c.args.index (let a = c.loop-word.invariant.sweeps in
+    let within = c.loop-word.invariant.within in let test =
+    c.loop-word-test.false in let e : c.loop-word.word ≡ 1024 = omega (arith, within, test) in rw e at a)
 
 pub returns-clause-entries : goal.returns-clause-entries
-returns-clause-entries c = entries_of-lost (slot_at c.args.self.now c.args.ram.now) (slot_at c.args.self.now c.loop-word.ram) c.args.index (returns-clause-loses c)
+returns-clause-entries c =
+    entries_of-lost (slot_at c.args.self.now c.args.ram.now) (slot_at c.args.self.now c.loop-word.ram) c.args.index (returns-clause-loses c)
 
 pub returns-clause-moves : goal.returns-clause-moves
 returns-clause-moves c = λ p o.

@@ -10,23 +10,27 @@ use Rattle.shadow_tables.proofs.shadow.Shadow.next_kept.Goals as goal
 pub dir-kernel-requires-clause-view : goal.dir-kernel-requires-clause-view
 dir-kernel-requires-clause-view c =
     let s = c.args.self.now in
-    subst (IsView c.args.ram.now) (sym c.root.ensures) (IsView-from_Holds c.args.ram.now (roots s) s.kernel c.requires.shadow.holds (in-kernel s))
+    subst (IsView c.args.ram.now) (sym c.root.ensures)
+    (IsView-from_Holds c.args.ram.now (roots s) s.kernel c.requires.shadow.holds (in-kernel s))
 
 pub dir-user-requires-clause-view : goal.dir-user-requires-clause-view
 dir-user-requires-clause-view c =
     let s = c.args.self.now in
-    subst (IsView c.args.ram.now) (sym c.root-2.ensures) (IsView-from_Holds c.args.ram.now (roots s) s.user c.requires.shadow.holds (in-user s))
+    subst (IsView c.args.ram.now) (sym c.root-2.ensures)
+    (IsView-from_Holds c.args.ram.now (roots s) s.user c.requires.shadow.holds (in-user s))
 
 pub next_word-requires-clause-kernel : goal.next_word-requires-clause-kernel
 next_word-requires-clause-kernel c =
     let s = c.args.self.now in
-    table-lies c.args.ram.now s.kernel c.args.index c.dir-kernel.result (IsView-from_Holds c.args.ram.now (roots s) s.kernel c.requires.shadow.holds (in-kernel s))
+    table-lies c.args.ram.now s.kernel c.args.index c.dir-kernel.result
+    (IsView-from_Holds c.args.ram.now (roots s) s.kernel c.requires.shadow.holds (in-kernel s))
     c.requires.index (c.dir-kernel.ensures ∙ ap (λ r. dir c.args.ram.now r c.args.index) c.root.ensures)
 
 pub next_word-requires-clause-user : goal.next_word-requires-clause-user
 next_word-requires-clause-user c =
     let s = c.args.self.now in
-    table-lies c.args.ram.now s.user c.args.index c.dir-user.result (IsView-from_Holds c.args.ram.now (roots s) s.user c.requires.shadow.holds (in-user s))
+    table-lies c.args.ram.now s.user c.args.index c.dir-user.result
+    (IsView-from_Holds c.args.ram.now (roots s) s.user c.requires.shadow.holds (in-user s))
     c.requires.index (c.dir-user.ensures ∙ ap (λ r. dir c.args.ram.now r c.args.index) c.root-2.ensures)
 
 pub returns-clause-none : goal.returns-clause-none

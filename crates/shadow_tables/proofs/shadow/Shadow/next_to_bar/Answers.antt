@@ -9,23 +9,27 @@ use Rattle.shadow_tables.proofs.shadow.Shadow.next_to_bar.Goals as goal
 pub dir-kernel-requires-clause-view : goal.dir-kernel-requires-clause-view
 dir-kernel-requires-clause-view c =
     let s = c.args.self.now in
-    subst (IsView c.args.ram.now) (sym c.root.ensures) (IsView-from_Holds c.args.ram.now (roots s) s.kernel c.requires.shadow.holds (in-kernel s))
+    subst (IsView c.args.ram.now) (sym c.root.ensures)
+    (IsView-from_Holds c.args.ram.now (roots s) s.kernel c.requires.shadow.holds (in-kernel s))
 
 pub dir-user-requires-clause-view : goal.dir-user-requires-clause-view
 dir-user-requires-clause-view c =
     let s = c.args.self.now in
-    subst (IsView c.args.ram.now) (sym c.root-2.ensures) (IsView-from_Holds c.args.ram.now (roots s) s.user c.requires.shadow.holds (in-user s))
+    subst (IsView c.args.ram.now) (sym c.root-2.ensures)
+    (IsView-from_Holds c.args.ram.now (roots s) s.user c.requires.shadow.holds (in-user s))
 
 pub next_giving-requires-clause-lies : goal.next_giving-requires-clause-lies
 next_giving-requires-clause-lies c =
     let s = c.args.self.now in
-    table-lies c.args.ram.now s.kernel c.args.index c.dir-kernel.result (IsView-from_Holds c.args.ram.now (roots s) s.kernel c.requires.shadow.holds (in-kernel s))
+    table-lies c.args.ram.now s.kernel c.args.index c.dir-kernel.result
+    (IsView-from_Holds c.args.ram.now (roots s) s.kernel c.requires.shadow.holds (in-kernel s))
     c.requires.index (c.dir-kernel.ensures ∙ ap (λ r. dir c.args.ram.now r c.args.index) c.root.ensures)
 
 pub next_giving-requires-2-clause-lies : goal.next_giving-requires-2-clause-lies
 next_giving-requires-2-clause-lies c =
     let s = c.args.self.now in
-    table-lies c.args.ram.now s.user c.args.index c.dir-user.result (IsView-from_Holds c.args.ram.now (roots s) s.user c.requires.shadow.holds (in-user s))
+    table-lies c.args.ram.now s.user c.args.index c.dir-user.result
+    (IsView-from_Holds c.args.ram.now (roots s) s.user c.requires.shadow.holds (in-user s))
     c.requires.index (c.dir-user.ensures ∙ ap (λ r. dir c.args.ram.now r c.args.index) c.root-2.ensures)
 
 pub returns-clause-none : goal.returns-clause-none
@@ -36,8 +40,10 @@ returns-clause-none c = λ page l low high.
     let least = c.min.ensures in
     page-still s m page frame c.requires.shadow l
     (word-still m s.kernel index frame c.args.from c.next_giving.result c.next_giving.ensures.within
-    (subst (λ d. (i : ℕ) → c.args.from ≤ i → i < c.next_giving.result → barred_word frame (by_dir m d i) ≡ by_dir m d i) kernel c.next_giving.ensures.none)
+    (subst (λ d. (i : ℕ) → c.args.from ≤ i → i < c.next_giving.result → barred_word frame (by_dir m d i) ≡ by_dir m d i) kernel
+    c.next_giving.ensures.none)
     page low (omega (arith, high, least)))
     (word-still m s.user index frame c.args.from c.next_giving-2.result c.next_giving-2.ensures.within
-    (subst (λ d. (i : ℕ) → c.args.from ≤ i → i < c.next_giving-2.result → barred_word frame (by_dir m d i) ≡ by_dir m d i) user c.next_giving-2.ensures.none)
+    (subst (λ d. (i : ℕ) → c.args.from ≤ i → i < c.next_giving-2.result → barred_word frame (by_dir m d i) ≡ by_dir m d i) user
+    c.next_giving-2.ensures.none)
     page low (omega (arith, high, least)))

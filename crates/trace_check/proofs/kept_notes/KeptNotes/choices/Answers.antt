@@ -3,7 +3,8 @@ use Rattle.trace_check.proofs.Keeping.{all_told, more_told}
 use Rattle.trace_check.proofs.kept_notes.KeptNotes.choices.Goals as goal
 
 pub returns-then-self : goal.returns-then-self
-returns-then-self c = record { told = λ notes h. more_told c.args.self.now notes h (ap (λ k. k.more) (sym c.self.view_is) ∙ c.if-self.true) }
+returns-then-self c =
+    record { told = λ notes h. more_told c.args.self.now notes h (ap (λ k. k.more) (sym c.self.view_is) ∙ c.if-self.true) }
 
 pub returns-else-self : goal.returns-else-self
 returns-else-self c = record {

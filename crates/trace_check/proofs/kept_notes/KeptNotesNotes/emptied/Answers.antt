@@ -3,4 +3,5 @@ use Rattle.trace_check.proofs.Keeping.{kept_on}
 use Rattle.trace_check.proofs.kept_notes.KeptNotesNotes.emptied.Goals as goal
 
 pub returns-clause-note : goal.returns-clause-note
-returns-clause-note c = λ so_far h. kept_on c.args.self.now c.note.new.self so_far (emptied_at c.args.step) c.note.ensures.kept c.note.ensures.full h
+returns-clause-note c =
+    λ so_far h. kept_on c.args.self.now c.note.new.self so_far (emptied_at c.args.step) c.note.ensures.kept c.note.ensures.full h

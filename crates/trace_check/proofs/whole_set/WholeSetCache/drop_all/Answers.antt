@@ -8,7 +8,8 @@ use Rattle.trace_check.proofs.whole_set.WholeSetCache.drop_all.Goals as goal
 pub loop-index-init : goal.loop-index-init
 loop-index-init c = record {
   gone = λ page h. absurd (omega arith);
-  behind = λ page le. ap (λ m. get m page) (sym c.self.view_is) ∙ get_behind c.self.inside.words.items c.self.inside.marks.items page c.self.invariant le;
+  behind = λ page le. ap (λ m. get m page) (sym c.self.view_is) ∙ get_behind c.self.inside.words.items c.self.inside.marks.items page
+      c.self.invariant le;
 }
 
 pub loop-index-preserved : goal.loop-index-preserved

@@ -10,7 +10,9 @@ pub returns-then-page-lt-PAGES-clause-gone : goal.returns-then-page-lt-PAGES-cla
 returns-then-page-lt-PAGES-clause-gone c = get_cleared _ c.args.page (at_place c.self.inside.words.items c.args.page)
 
 pub returns-then-page-lt-PAGES-clause-others : goal.returns-then-page-lt-PAGES-clause-others
-returns-then-page-lt-PAGES-clause-others c = λ other n. get_put_other c.self.inside.words.items c.args.page 0 other n ∙ ap (λ m. get m other) c.self.view_is
+returns-then-page-lt-PAGES-clause-others c =
+    λ other n. get_put_other c.self.inside.words.items c.args.page 0 other n ∙ ap (λ m. get m other) c.self.view_is
 
 pub returns-else-page-lt-PAGES-clause-gone : goal.returns-else-page-lt-PAGES-clause-gone
-returns-else-page-lt-PAGES-clause-gone c = ap (λ m. get m c.args.page) (sym c.self.view_is) ∙ get_behind c.self.inside.words.items c.self.inside.marks.items c.args.page c.self.invariant c.if-page-lt-PAGES.false
+returns-else-page-lt-PAGES-clause-gone c = ap (λ m. get m c.args.page) (sym c.self.view_is)
+    ∙ get_behind c.self.inside.words.items c.self.inside.marks.items c.args.page c.self.invariant c.if-page-lt-PAGES.false

@@ -9,8 +9,11 @@ pub returns-then-page-lt-PAGES : goal.returns-then-page-lt-PAGES
 returns-then-page-lt-PAGES c =
     let words = c.self.inside.words.items in
     let lt : c.args.page < length words = omega (arith, c.self.invariant.pages, c.if-page-lt-PAGES.true) in
-    let word : c.index.result.now ≡ get_or words c.args.page 0 = c.index.ensures ∙ get_or_default_zero words c.args.page c.index.result.now lt in
+    let word : c.index.result.now ≡ get_or words c.args.page 0 =
+    c.index.ensures ∙ get_or_default_zero words c.args.page c.index.result.now lt in
     c.entry_in.ensures ∙ ap (entry_in c.args.page) word ∙ sym (get_entries words c.args.page) ∙ ap (λ m. get m c.args.page) c.self.view_is
 
 pub returns-else-page-lt-PAGES : goal.returns-else-page-lt-PAGES
-returns-else-page-lt-PAGES c = sym (ap (λ m. get m c.args.page) (sym c.self.view_is) ∙ get_behind c.self.inside.words.items c.self.inside.marks.items c.args.page c.self.invariant c.if-page-lt-PAGES.false)
+returns-else-page-lt-PAGES c =
+    sym (ap (λ m. get m c.args.page) (sym c.self.view_is) ∙ get_behind c.self.inside.words.items c.self.inside.marks.items c.args.page
+    c.self.invariant c.if-page-lt-PAGES.false)

@@ -6,7 +6,8 @@ use Rattle.trace_check.proofs.Holding.{get_put, get_put_other, whole_put}
 use Rattle.trace_check.proofs.whole_set.WholeSetCache.keep.Goals as goal
 
 pub invariant_of-self : goal.invariant_of-self
-invariant_of-self c = whole_put c.self.inside.words.items c.self.inside.marks.items c.args.entry.page c.word_of.result c.self.invariant c.requires.page c.word_of.ensures.small
+invariant_of-self c = whole_put c.self.inside.words.items c.self.inside.marks.items c.args.entry.page c.word_of.result c.self.invariant
+    c.requires.page c.word_of.ensures.small
 
 pub returns-clause-kept : goal.returns-clause-kept
 returns-clause-kept c =
@@ -14,10 +15,12 @@ returns-clause-kept c =
     rw c.word_of.ensures.word (get_put c.self.inside.words.items c.args.entry lt)
 
 pub returns-clause-others : goal.returns-clause-others
-returns-clause-others c = λ page n. inl (get_put_other c.self.inside.words.items c.args.entry.page c.word_of.result page n ∙ ap (λ m. get m page) c.self.view_is)
+returns-clause-others c =
+    λ page n. inl (get_put_other c.self.inside.words.items c.args.entry.page c.word_of.result page n ∙ ap (λ m. get m page) c.self.view_is)
 
 pub returns-clause-exact : goal.returns-clause-exact
-returns-clause-exact c = λ _ page n. get_put_other c.self.inside.words.items c.args.entry.page c.word_of.result page n ∙ ap (λ m. get m page) c.self.view_is
+returns-clause-exact c =
+    λ _ page n. get_put_other c.self.inside.words.items c.args.entry.page c.word_of.result page n ∙ ap (λ m. get m page) c.self.view_is
 
 pub returns-clause-whole : goal.returns-clause-whole
 returns-clause-whole c =

@@ -5,7 +5,11 @@ use Rattle.wedge_core.specs.Calls.{Adopts, MayAdopt, adopted}
 use Rattle.wedge_core.proofs.guest.Guest.adopt.Goals as goal
 
 pub adopt_in-requires : goal.adopt_in-requires
-adopt_in-requires g c = record { may = subst (λ (l : List ℕ). MayAdopt c.args.image.now c.args.frames c.args.pool.now l) (sym c.ram_mut.ensures.ram) c.requires.may }
+adopt_in-requires g c =
+    record {
+      may = subst (λ (l : List ℕ). MayAdopt c.args.image.now c.args.frames c.args.pool.now l)
+          (sym c.ram_mut.ensures.ram) c.requires.may;
+    }
 
 pub returns-clause-adopts : goal.returns-clause-adopts
 returns-clause-adopts g c =
@@ -14,8 +18,10 @@ returns-clause-adopts g c =
     let first = λ (l : List ℕ). adopted c.args.cpu c.args.board c.args.step n l in
     let pool = c.args.pool.now in
     let after = λ (k : List ℕ). scene c.in_ok-running.running c.adopt_in.new.pool k in
-    subst (λ (k : List ℕ). Adopts image n (first (g.H.Host.bytes c.args.host.now)) pool (g.H.Host.bytes c.args.host.now) (after k)) (sym (g.met.H.Host.bytes_changed c.args.host.now c.adopt_in.new.ram))
-    (subst (λ (l : List ℕ). Adopts image n (first l) pool l (after c.adopt_in.new.ram)) c.ram_mut.ensures.ram c.in_ok-running.ensures.adopts)
+    subst (λ (k : List ℕ). Adopts image n (first (g.H.Host.bytes c.args.host.now)) pool (g.H.Host.bytes c.args.host.now) (after k))
+    (sym (g.met.H.Host.bytes_changed c.args.host.now c.adopt_in.new.ram))
+    (subst (λ (l : List ℕ). Adopts image n (first l) pool l (after c.adopt_in.new.ram)) c.ram_mut.ensures.ram
+    c.in_ok-running.ensures.adopts)
 
 pub returns-in_err-running-clause-adopts : goal.returns-in_err-running-clause-adopts
 returns-in_err-running-clause-adopts g c = IfOk-from_err c.from_residual.result _ c.from_residual.ensures.0

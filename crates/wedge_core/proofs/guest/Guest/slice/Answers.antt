@@ -30,7 +30,8 @@ use Rattle.wedge_core.proofs.SliceStarts.{more_first, slice_begun, anew_carries}
 use Rattle.wedge_core.proofs.guest.Guest.slice.Goals as goal
 
 -- what holds of the guest as contracts see it holds of its fields
-abbrev fields_between : (image : Image) (r now : Running Roots) (pool : Pool) (memory : List ℕ) → r ≡ now → IsBetween of_roots image (scene now pool memory) → IsBetween of_roots image (scene r pool memory)
+abbrev fields_between : (image : Image) (r now : Running Roots) (pool : Pool) (memory : List ℕ) → r ≡ now
+    → IsBetween of_roots image (scene now pool memory) → IsBetween of_roots image (scene r pool memory)
 fields_between image r now pool memory is = subst (λ (k : Running Roots). IsBetween of_roots image (scene k pool memory)) (sym is)
 
 pub begin-requires-clause-held : goal.begin-requires-clause-held
@@ -45,18 +46,23 @@ same_fills old begun e = ap (λ (x : Running Roots). x.fills) e
 pub steps_to-requires-clause-between : goal.steps_to-requires-clause-between
 steps_to-requires-clause-between g c = record {
   held =
-      let between = fields_between c.args.image.now c.self.inside.running c.args.self.now c.args.pool.now (g.H.Host.bytes c.args.host.now) c.self.view_is c.requires.between in
+      let between = fields_between c.args.image.now c.self.inside.running c.args.self.now c.args.pool.now (g.H.Host.bytes c.args.host.now)
+      c.self.view_is c.requires.between in
       let begun = c.begin.new.running in
-      subst (λ (n : ℕ). IsHeld of_roots (ground c.args.image.now n) begun c.begin.new.pool (g.H.Host.bytes c.begin.new.host)) (sym (same_frames c.self.inside.running begun c.begin.ensures.begins.running))
+      subst (λ (n : ℕ). IsHeld of_roots (ground c.args.image.now n) begun c.begin.new.pool (g.H.Host.bytes c.begin.new.host))
+      (sym (same_frames c.self.inside.running begun c.begin.ensures.begins.running))
       (c.begin.ensures.begins.held c.args.image.now between.held);
   ready =
-      let between = fields_between c.args.image.now c.self.inside.running c.args.self.now c.args.pool.now (g.H.Host.bytes c.args.host.now) c.self.view_is c.requires.between in
+      let between = fields_between c.args.image.now c.self.inside.running c.args.self.now c.args.pool.now (g.H.Host.bytes c.args.host.now)
+      c.self.view_is c.requires.between in
       let old = c.self.inside.running in
       let begun = c.begin.new.running in
       let ready = c.begin.ensures.begins.ready c.args.image.now between.ready in
-      subst (λ (n : ℕ). IsReady of_roots (ground c.args.image.now n) begun.cpu begun.shadows (g.H.Host.bytes c.begin.new.host)) (sym (same_frames old begun c.begin.ensures.begins.running)) ready;
+      subst (λ (n : ℕ). IsReady of_roots (ground c.args.image.now n) begun.cpu begun.shadows (g.H.Host.bytes c.begin.new.host))
+      (sym (same_frames old begun c.begin.ensures.begins.running)) ready;
   enough =
-      let between = fields_between c.args.image.now c.self.inside.running c.args.self.now c.args.pool.now (g.H.Host.bytes c.args.host.now) c.self.view_is c.requires.between in
+      let between = fields_between c.args.image.now c.self.inside.running c.args.self.now c.args.pool.now (g.H.Host.bytes c.args.host.now)
+      c.self.view_is c.requires.between in
       let held_now = c.begin.ensures.begins.held c.args.image.now between.held in
       let count = between.held.counted in
       let count_now = held_now.counted in
@@ -67,18 +73,24 @@ steps_to-requires-clause-between g c = record {
 
 pub returns-clause-leaves : goal.returns-clause-leaves
 returns-clause-leaves g c =
-    subst (λ (r : Running Roots). SliceLeaves of_roots c.args.image.now (r.step + c.args.k) (scene r c.args.pool.now (g.H.Host.bytes c.args.host.now)) (scene c.steps_to.new.running c.steps_to.new.pool (g.H.Host.bytes c.steps_to.new.host)) c.steps_to.result) c.self.view_is
+    subst (λ (r : Running Roots). SliceLeaves of_roots c.args.image.now (r.step + c.args.k)
+    (scene r c.args.pool.now (g.H.Host.bytes c.args.host.now))
+    (scene c.steps_to.new.running c.steps_to.new.pool (g.H.Host.bytes c.steps_to.new.host)) c.steps_to.result) c.self.view_is
     (record {
       reached = c.steps_to.ensures.leaves.reached;
       held =
           let old = c.self.inside.running in
           let begun = c.begin.new.running in
-          subst (λ (n : ℕ). IfReached c.steps_to.result (IsHeld of_roots (ground c.args.image.now n) c.steps_to.new.running c.steps_to.new.pool (g.H.Host.bytes c.steps_to.new.host))) (same_frames old begun c.begin.ensures.begins.running) c.steps_to.ensures.leaves.held;
+          subst (λ (n : ℕ). IfReached c.steps_to.result
+          (IsHeld of_roots (ground c.args.image.now n) c.steps_to.new.running c.steps_to.new.pool (g.H.Host.bytes c.steps_to.new.host)))
+          (same_frames old begun c.begin.ensures.begins.running) c.steps_to.ensures.leaves.held;
       ready =
           let old = c.self.inside.running in
           let begun = c.begin.new.running in
           let end = c.steps_to.new.running in
-          subst (λ (n : ℕ). IfReached c.steps_to.result (IsReady of_roots (ground c.args.image.now n) end.cpu end.shadows (g.H.Host.bytes c.steps_to.new.host))) (same_frames old begun c.begin.ensures.begins.running) c.steps_to.ensures.leaves.ready;
+          subst (λ (n : ℕ). IfReached c.steps_to.result
+          (IsReady of_roots (ground c.args.image.now n) end.cpu end.shadows (g.H.Host.bytes c.steps_to.new.host))) (same_frames old begun
+          c.begin.ensures.begins.running) c.steps_to.ensures.leaves.ready;
       able = c.steps_to.ensures.leaves.able;
       counted = c.steps_to.ensures.leaves.counted;
       stands = c.steps_to.ensures.leaves.stands;
@@ -89,7 +101,8 @@ returns-clause-leaves g c =
           let m0 = g.H.Host.bytes c.args.host.now in
           let m1 = g.H.Host.bytes c.begin.new.host in
           let m2 = g.H.Host.bytes c.steps_to.new.host in
-          keeps_join c.args.pool.now c.begin.new.pool c.steps_to.new.pool m0 m1 m2 (roots.frames old.shadows m0) (roots.frames begun.shadows m1) (roots.frames end.shadows m2) c.begin.ensures.begins.keeps c.steps_to.ensures.leaves.pool;
+          keeps_join c.args.pool.now c.begin.new.pool c.steps_to.new.pool m0 m1 m2 (roots.frames old.shadows m0)
+          (roots.frames begun.shadows m1) (roots.frames end.shadows m2) c.begin.ensures.begins.keeps c.steps_to.ensures.leaves.pool;
       few = c.steps_to.ensures.leaves.few;
       filled =
           let old = c.self.inside.running in
@@ -97,22 +110,30 @@ returns-clause-leaves g c =
           let first = pages_kept of_roots begun.shadows (g.H.Host.bytes c.begin.new.host) in
           let pages = pages_kept of_roots old.shadows (g.H.Host.bytes c.args.host.now) in
           let last = pages_kept of_roots c.steps_to.new.running.shadows (g.H.Host.bytes c.steps_to.new.host) in
-          subst (λ (n : ℕ). CountsFills pages last n c.steps_to.new.running.fills) (same_fills old begun c.begin.ensures.begins.running) (more_first first pages last begun.fills c.steps_to.new.running.fills c.begin.ensures.begins.fewer c.steps_to.ensures.leaves.filled);
+          subst (λ (n : ℕ). CountsFills pages last n c.steps_to.new.running.fills) (same_fills old begun c.begin.ensures.begins.running)
+          (more_first first pages last begun.fills c.steps_to.new.running.fills c.begin.ensures.begins.fewer
+          c.steps_to.ensures.leaves.filled);
       frames = c.steps_to.ensures.leaves.frames ∙ same_frames c.self.inside.running c.begin.new.running c.begin.ensures.begins.running;
     })
 
 pub returns-clause-own : goal.returns-clause-own
 returns-clause-own g c =
-    subst (λ (r : Running Roots). GuestLeaves c.args.image.now c.args.script.now.list (scene r c.args.pool.now (g.H.Host.bytes c.args.host.now)) (scene c.steps_to.new.running c.steps_to.new.pool (g.H.Host.bytes c.steps_to.new.host)) c.steps_to.result) c.self.view_is
+    subst (λ (r : Running Roots). GuestLeaves c.args.image.now c.args.script.now.list
+    (scene r c.args.pool.now (g.H.Host.bytes c.args.host.now))
+    (scene c.steps_to.new.running c.steps_to.new.pool (g.H.Host.bytes c.steps_to.new.host)) c.steps_to.result) c.self.view_is
     (record {
       memory =
           let old = c.self.inside.running in
           let begun = c.begin.new.running in
-          subst (λ (n : ℕ). IfReached c.steps_to.result (take (4096 * n) (g.H.Host.bytes c.steps_to.new.host) ≡ with_patches c.args.image.now (shown (wedge c.args.image.now c.args.script.now.list n) (g.H.Host.bytes c.steps_to.new.host))))
+          subst (λ (n : ℕ). IfReached c.steps_to.result
+          (take (4096 * n) (g.H.Host.bytes c.steps_to.new.host) ≡ with_patches c.args.image.now
+          (shown (wedge c.args.image.now c.args.script.now.list n) (g.H.Host.bytes c.steps_to.new.host))))
           (same_frames old begun c.begin.ensures.begins.running)
-          (front_after c.steps_to.result c.args.image.now c.args.script.now.list begun.frames c.steps_to.new.running c.steps_to.new.pool (g.H.Host.bytes c.steps_to.new.host) c.steps_to.ensures.leaves.held);
+          (front_after c.steps_to.result c.args.image.now c.args.script.now.list begun.frames c.steps_to.new.running c.steps_to.new.pool
+          (g.H.Host.bytes c.steps_to.new.host) c.steps_to.ensures.leaves.held);
       owns =
-          let between = fields_between c.args.image.now c.self.inside.running c.args.self.now c.args.pool.now (g.H.Host.bytes c.args.host.now) c.self.view_is c.requires.between in
+          let between = fields_between c.args.image.now c.self.inside.running c.args.self.now c.args.pool.now
+          (g.H.Host.bytes c.args.host.now) c.self.view_is c.requires.between in
           let h = c.begin.ensures.begins.held c.args.image.now between.held in
           keeps_owns _ _ _ _ _ _ h.owns c.steps_to.ensures.leaves.pool;
       filled =
@@ -122,7 +143,9 @@ returns-clause-own g c =
           let pages = pages_kept of_roots old.shadows (g.H.Host.bytes c.args.host.now) in
           let last = pages_kept of_roots c.steps_to.new.running.shadows (g.H.Host.bytes c.steps_to.new.host) in
           still_filled pages last old.fills c.steps_to.new.running.fills
-          (subst (λ (n : ℕ). CountsFills pages last n c.steps_to.new.running.fills) (same_fills old begun c.begin.ensures.begins.running) (more_first first pages last begun.fills c.steps_to.new.running.fills c.begin.ensures.begins.fewer c.steps_to.ensures.leaves.filled));
+          (subst (λ (n : ℕ). CountsFills pages last n c.steps_to.new.running.fills) (same_fills old begun c.begin.ensures.begins.running)
+          (more_first first pages last begun.fills c.steps_to.new.running.fills c.begin.ensures.begins.fewer
+          c.steps_to.ensures.leaves.filled));
     })
 
 pub returns-clause-silent : goal.returns-clause-silent
@@ -136,7 +159,8 @@ returns-clause-started g c = c.steps_to.ensures.started
 
 pub returns-clause-slice : goal.returns-clause-slice
 returns-clause-slice g c =
-    let between = fields_between c.args.image.now c.self.inside.running c.args.self.now c.args.pool.now (g.H.Host.bytes c.args.host.now) c.self.view_is c.requires.between in
+    let between = fields_between c.args.image.now c.self.inside.running c.args.self.now c.args.pool.now (g.H.Host.bytes c.args.host.now)
+    c.self.view_is c.requires.between in
     let old = c.self.inside.running in
     let begun = c.begin.new.running in
     let end = c.steps_to.new.running in
@@ -159,19 +183,31 @@ returns-clause-slice g c =
     let Knows = λ (n : ℕ). IsCarried of_roots (wedge image script n) [] (state_of of_roots (wedge image script n) begun m1) begun.shadows m1
     × (length (free_list c.begin.new.pool m1) + begun.held ≡ 512) × (notes_wanted ≡ false) in
     let starts = BeginsEmpty (entries_of (roots.slots old.shadows m0)) (length (free_list c.args.pool.now m0)) old.held notes_wanted in
-    let by_frames = subst (λ (n : ℕ). SliceAs (wedge image script n) bound (state_of of_roots (wedge image script n) begun m1) (state_of of_roots (wedge image script n) end m2) mid after told tells first begun.fills end.fills notes_wanted on (Knows n) c.steps_to.result)
+    let by_frames =
+    subst (λ (n : ℕ). SliceAs (wedge image script n) bound (state_of of_roots (wedge image script n) begun m1)
+    (state_of of_roots (wedge image script n) end m2) mid after told tells first begun.fills end.fills notes_wanted on
+    (Knows n) c.steps_to.result)
     (same_frames old begun c.begin.ensures.begins.running) c.steps_to.ensures.slice in
-    let by_fills = subst (λ (n : ℕ). SliceAs m bound (state_of of_roots m begun m1) (state_of of_roots m end m2) mid after told tells first n end.fills notes_wanted on (Knows old.frames) c.steps_to.result)
+    let by_fills = subst (λ (n : ℕ). SliceAs m bound (state_of of_roots m begun m1) (state_of of_roots m end m2) mid after told tells first
+    n end.fills notes_wanted on (Knows old.frames) c.steps_to.result)
     (same_fills old begun c.begin.ensures.begins.running) by_frames in
-    let by_state = subst (λ (b : State). SliceAs m bound b (state_of of_roots m end m2) mid after told tells first old.fills end.fills notes_wanted on (Knows old.frames) c.steps_to.result) (c.begin.ensures.begins.state m refl) by_fills in
-    let by_counts = subst (λ (x : Counts). SliceAs m bound (state_of of_roots m old m0) (state_of of_roots m end m2) x after told tells first old.fills end.fills notes_wanted on (Knows old.frames) c.steps_to.result)
+    let by_state =
+    subst (λ (b : State). SliceAs m bound b (state_of of_roots m end m2) mid after told tells first old.fills end.fills notes_wanted on
+    (Knows old.frames) c.steps_to.result) (c.begin.ensures.begins.state m refl) by_fills in
+    let by_counts =
+    subst (λ (x : Counts). SliceAs m bound (state_of of_roots m old m0) (state_of of_roots m end m2) x after told tells first old.fills
+    end.fills notes_wanted on (Knows old.frames) c.steps_to.result)
     (λ i. record { retired = c.begin.ensures.counts.retired i; passed = c.begin.ensures.counts.passed i }) by_state in
     let held_now = c.begin.ensures.begins.held image between.held in
-    subst (λ (r : Running Roots). SliceIn of_roots (wedge image script r.frames) (r.step + c.args.k) (scene r c.args.pool.now m0) (scene end c.steps_to.new.pool m2) (outward g.H.Host g.O.Sink c.args.host.now c.steps_to.new.host c.args.out.now c.steps_to.new.out)
-    (noting g.L.Notes c.args.notes.now c.steps_to.new.notes) (BeginsBare of_roots (scene r c.args.pool.now m0) notes_wanted) c.steps_to.result) c.self.view_is
-    (slice_begun m bound (state_of of_roots m old m0) (state_of of_roots m end m2) before after told tells first pages old.fills end.fills notes_wanted on (Knows old.frames) starts c.steps_to.result c.begin.ensures.begins.fewer
+    subst (λ (r : Running Roots). SliceIn of_roots (wedge image script r.frames) (r.step + c.args.k) (scene r c.args.pool.now m0)
+    (scene end c.steps_to.new.pool m2) (outward g.H.Host g.O.Sink c.args.host.now c.steps_to.new.host c.args.out.now c.steps_to.new.out)
+    (noting g.L.Notes c.args.notes.now c.steps_to.new.notes) (BeginsBare of_roots (scene r c.args.pool.now m0) notes_wanted)
+    c.steps_to.result) c.self.view_is
+    (slice_begun m bound (state_of of_roots m old m0) (state_of of_roots m end m2) before after told tells first pages old.fills end.fills
+    notes_wanted on (Knows old.frames) starts c.steps_to.result c.begin.ensures.begins.fewer
     (λ s.
-    let none : entries_of (roots.slots begun.shadows m1) ≡ empty = ap (λ (b : State). b.set) (c.begin.ensures.begins.state m refl) ∙ s.empty_set in
+    let none : entries_of (roots.slots begun.shadows m1) ≡ empty =
+    ap (λ (b : State). b.set) (c.begin.ensures.begins.state m refl) ∙ s.empty_set in
     let count = between.held.counted in
     let count_now = held_now.counted in
     let lengths = c.begin.ensures.begins.keeps.lengths in

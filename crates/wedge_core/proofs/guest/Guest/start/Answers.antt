@@ -10,17 +10,21 @@ use Rattle.wedge_core.proofs.guest.Guest.start.Goals as goal
 
 pub returns-in-Ok-clause-filled : goal.returns-in-Ok-clause-filled
 returns-in-Ok-clause-filled g c =
-    subst (λ (l : List ℕ). IfOk c.start_in.result (λ started. WereFilled (kept_in of_roots (scene started.0 started.1 l)) started.0.fills)) (sym (g.met.H.Host.bytes_changed c.start.new.self c.start_in.new.ram))
+    subst (λ (l : List ℕ). IfOk c.start_in.result (λ started. WereFilled (kept_in of_roots (scene started.0 started.1 l)) started.0.fills))
+    (sym (g.met.H.Host.bytes_changed c.start.new.self c.start_in.new.ram))
     (none_kept_ok c.start_in.new.ram c.start_in.result c.start_in.ensures.none)
 
 pub returns-in-Ok-clause-ready : goal.returns-in-Ok-clause-ready
 returns-in-Ok-clause-ready g c =
-    subst (λ (l : List ℕ). IfOk c.start_in.result (λ started. IsReadyIn of_roots (ground c.args.image.now c.args.frames) (scene started.0 started.1 l))) (sym (g.met.H.Host.bytes_changed c.start.new.self c.start_in.new.ram))
+    subst (λ (l : List ℕ). IfOk c.start_in.result
+    (λ started. IsReadyIn of_roots (ground c.args.image.now c.args.frames) (scene started.0 started.1 l)))
+    (sym (g.met.H.Host.bytes_changed c.start.new.self c.start_in.new.ram))
     c.start_in.ensures.ready
 
 pub returns-in-Ok-clause-started : goal.returns-in-Ok-clause-started
 returns-in-Ok-clause-started g c =
-    subst (λ (l : List ℕ). StartedAs c.args.image.now c.args.frames c.args.pool l c.start_in.result) (sym (g.met.H.Host.bytes_changed c.start.new.self c.start_in.new.ram)) c.start_in.ensures.started
+    subst (λ (l : List ℕ). StartedAs c.args.image.now c.args.frames c.args.pool l c.start_in.result)
+    (sym (g.met.H.Host.bytes_changed c.start.new.self c.start_in.new.ram)) c.start_in.ensures.started
 
 pub returns-in-Ok-clause-counts : goal.returns-in-Ok-clause-counts
 returns-in-Ok-clause-counts g c = record {

@@ -19,18 +19,23 @@ invariant_of-self g c =
     let frames = old.step.state.control.frames in
     let sound = old.going c.state-state.result.guard c.state-state.ensures.guards in
     let same = ap (λ (t : StepState). t.changes) c.state-state.ensures.state in
-    let kept = subst (λ (cs : List Change). MatchOption c.settle-filled.result (after ≡ empty) (λ n. after ≡ changed before cs)) same c.settle-filled.ensures.settled.entries in
-    let room = room_left old.pool.now u.pool old.ram.now u.ram (f old.shadows.now old.ram.now) (f u.shadows u.ram) frames c.settle-filled.ensures.moves sound.frames_in sound.below in
+    let kept = subst (λ (cs : List Change). MatchOption c.settle-filled.result (after ≡ empty) (λ n. after ≡ changed before cs)) same
+    c.settle-filled.ensures.settled.entries in
+    let room = room_left old.pool.now u.pool old.ram.now u.ram (f old.shadows.now old.ram.now) (f u.shadows u.ram) frames
+    c.settle-filled.ensures.moves sound.frames_in sound.below in
     let p = c.new-self.result in let begins = c.new-self.ensures.state in let place = c.new-self.ensures.text in
     let among : p.first + p.count ≤ frames = omega (arith, place.0, place.1, old.laid) in
     record {
       laid = omega (arith, among, ap (λ (t : StepState). t.control.frames) begins);
-      going = going_first (λ m. entries_of (s u.shadows m)) (4096 * base_of u.pool) (λ m. (∥ g.S.Shadows.stands u.shadows m ∥₁) × Owns u.pool m (f u.shadows m)) u.ram p old.step.state.control begins
-          room.0 room.1 among (both c.settle-filled.ensures.stands c.settle-filled.ensures.owns) (left_within c.settle-filled.result after (changed before old.step.state.changes) frames kept sound.within);
+      going = going_first (λ m. entries_of (s u.shadows m)) (4096 * base_of u.pool)
+          (λ m. (∥ g.S.Shadows.stands u.shadows m ∥₁) × Owns u.pool m (f u.shadows m)) u.ram p old.step.state.control begins
+          room.0 room.1 among (both c.settle-filled.ensures.stands c.settle-filled.ensures.owns)
+          (left_within c.settle-filled.result after (changed before old.step.state.changes) frames kept sound.within);
     }
 
 pub entries_used-used-requires-clause-stands : goal.entries_used-used-requires-clause-stands
-entries_used-used-requires-clause-stands g c = first (c.args.self.now.going c.state-state.result.guard c.state-state.ensures.guards).stands_now
+entries_used-used-requires-clause-stands g c =
+    first (c.args.self.now.going c.state-state.result.guard c.state-state.ensures.guards).stands_now
 
 pub entries_used-used-requires-clause-told : goal.entries_used-used-requires-clause-told
 entries_used-used-requires-clause-told g c =
@@ -44,8 +49,10 @@ entries_used-used-requires-clause-few g c =
     subst (λ (t : StepState). length t.visited ≤ 128) (sym c.state-state.ensures.state) (omega (arith, visits, few))
 
 pub returns-in-Some-clause-count : goal.returns-in-Some-clause-count
-returns-in-Some-clause-count g c =
-    (rw c.state-state.ensures.state at c.entries_used-used.ensures, rw c.state-state.ensures.state at (rw c.in-Some.is at c.settle-filled.ensures.room))
+returns-in-Some-clause-count g c = (
+  rw c.state-state.ensures.state at c.entries_used-used.ensures,
+  rw c.state-state.ensures.state at (rw c.in-Some.is at c.settle-filled.ensures.room),
+)
 
 pub returns-in-None-clause-count : goal.returns-in-None-clause-count
 returns-in-None-clause-count g c = rw c.state-state.ensures.state at (rw c.in-None.is at c.settle-filled.ensures.room)

@@ -16,6 +16,7 @@ invariant_of-result g c =
     let among : p.first + p.count ≤ c.args.frames = omega (arith, place.0, place.1, c.requires.text) in
     record {
       laid = omega (arith, among, ap (λ (t : StepState). t.control.frames) begins);
-      going = going_first (λ m. entries_of (s shadows m)) (4096 * base_of pool) (λ m. (∥ g.S.Shadows.stands shadows m ∥₁) × Owns pool m (f shadows m)) ram p _ begins
+      going = going_first (λ m. entries_of (s shadows m)) (4096 * base_of pool)
+          (λ m. (∥ g.S.Shadows.stands shadows m ∥₁) × Owns pool m (f shadows m)) ram p _ begins
           room.0 room.1 among (both c.requires.stands c.requires.owns) c.requires.within;
     }
