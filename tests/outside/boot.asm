@@ -68,7 +68,30 @@ start32:
         xor eax, eax
         mov dx, 0xCF8
         out dx, eax
-        mov al, 0xFF            ; both interrupt controllers are masked until the guest starts them
+        ; the timer counts once, to 1, and its line then stays: in QEMU it would go by real time. Starting the controllers clears its
+        ; request; they are masked until the guest starts them
+        mov al, 0x30
+        out 0x43, al
+        mov al, 1
+        out 0x40, al
+        xor al, al
+        out 0x40, al
+        mov ecx, 0x10000
+settle: loop settle
+        mov al, 0x11
+        out 0x20, al
+        out 0xA0, al
+        mov al, 0
+        out 0x21, al
+        out 0xA1, al
+        mov al, 4
+        out 0x21, al
+        mov al, 2
+        out 0xA1, al
+        mov al, 1
+        out 0x21, al
+        out 0xA1, al
+        mov al, 0xFF
         out 0x21, al
         out 0xA1, al
         xor eax, eax

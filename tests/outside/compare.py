@@ -1,8 +1,9 @@
 """Compares a run of the bare machine with what an outside model did at each step, and both memories at the end.
 
-Not proved. What it leaves out: flags that the SDM leaves undefined, until both agree again; RF, which isn't kept here (docs/DECISIONS.md),
-in EFLAGS and in the EFLAGS words that faults push; EAX after an IN of a device that the machine here doesn't have, until both agree;
-and for QEMU accessed flags in memory that it doesn't write where CS and SS are loaded.
+Not proved. What it leaves out: flags that the SDM leaves undefined, until both agree again, also in EFLAGS words that are pushed meanwhile
+and where these are popped; RF, which isn't kept here (docs/DECISIONS.md), in EFLAGS and in the EFLAGS words that faults push; EAX after
+an IN of a device that the machine here doesn't have, until both agree; and for QEMU accessed flags in memory that it doesn't write where
+CS and SS are loaded.
 """
 import re
 
@@ -15,14 +16,25 @@ RF = 0x10000
 CF, PF, AF, ZF, SF, OF = 1, 4, 0x10, 0x40, 0x80, 0x800
 PAGING = 0x80000000
 
-# Flags that the SDM's volume 2 leaves undefined, by the names of instructions; of shifts also where a count isn't 1.
+# Flags that the SDM's volume 2 leaves undefined, by the names of instructions; of shifts see undefined_by_shift.
 UNDEFINED = (
-    (r"(and|or|xor|test)[bl]?", AF), (r"(shl|shr)[bl]?", AF | OF | CF), (r"sar[bl]?", AF | OF), (r"(rol|ror)[bl]?", OF),
-    (r"i?mul[bl]?", SF | ZF | AF | PF), (r"i?div[bl]?", CF | OF | SF | ZF | AF | PF),
+    (r"(and|or|xor|test)[bl]?", AF), (r"i?mul[bl]?", SF | ZF | AF | PF), (r"i?div[bl]?", CF | OF | SF | ZF | AF | PF),
 )
+SHIFT = re.compile(r"(shl|shr|sar|rol|ror)([bl]) (?:(\$0x[0-9a-f]+|%cl),)?")
 
 
-def undefined_after(step):
+def undefined_by_shift(found, before):
+    """The same of a shift or a rotation, by its size and its count, of which five bits count: all of one by 0 are as they were."""
+    name, size, by = found.groups()
+    count = (before["ecx"] if by == "%cl" else int(by[1:], 16) if by else 1) & 31
+    flags = AF if name[0] == "s" and count else 0
+    flags |= OF if count > 1 else 0
+    return flags | (CF if name in ("shl", "shr") and count >= (8 if size == "b" else 32) else 0)
+
+
+def undefined_after(step, before):
+    if (found := SHIFT.match(step.does)):
+        return undefined_by_shift(found, before)
     name = step.does.split(" ")[0]
     return next((flags for pattern, flags in UNDEFINED if re.fullmatch(pattern, name)), 0)
 
@@ -44,7 +56,8 @@ class Comparison:
 
     def __init__(self, ours, theirs, memory, model):
         self.ours, self.theirs, self.memory, self.model = ours, theirs, memory, model
-        self.loose, self.is_eax_free, self.pushed = 0, False, set()
+        self.loose, self.is_eax_free = 0, False
+        self.pushed = {}        # the EFLAGS words on stacks, by their place in a page: the flags that may differ
         self.foreign = {int(step) for step, port, _ in ours.items if port in FOREIGN}
 
     def same(self, step, ours, theirs):
@@ -60,13 +73,23 @@ class Comparison:
         if wrong:
             raise Difference(step.number, wrong, f"{step.does}: {shown(wrong, ours, theirs)}")
 
-    def note(self, step, after):
-        """What a step leaves open: undefined flags, EAX, and where the EFLAGS word of a fault lies."""
-        self.loose |= undefined_after(step)
-        self.is_eax_free = self.is_eax_free or step.number in self.foreign and step.does.startswith("in")
+    def push(self, at, others):
+        """An EFLAGS word is pushed: it may differ as EFLAGS does, and in other flags."""
+        if self.loose | others:
+            self.pushed[at & 0xFFF] = self.pushed.get(at & 0xFFF, 0) | self.loose | others
+
+    def note(self, step, before, after):
+        """What a step leaves open: undefined flags, EAX, and EFLAGS words that it pushes or pops."""
         delivery = looked.delivery_of(step)
-        if delivery and not delivery.saves_next:
-            self.pushed.add((after["esp"] + (8 if delivery.code is None else 12)) & 0xFFF)
+        if delivery:
+            self.push(after["esp"] + (8 if delivery.code is None else 12), 0 if delivery.saves_next else RF)
+        elif step.does.startswith("pushf"):
+            self.push(after["esp"], 0)
+        elif step.does.startswith(("popf", "iret")):
+            at = before["esp"] + (8 if step.does.startswith("iret") else 0)
+            self.loose |= self.pushed.get(at & 0xFFF, 0) & ~RF
+        self.loose |= undefined_after(step, before)
+        self.is_eax_free = self.is_eax_free or step.number in self.foreign and step.does.startswith("in")
 
     def walk(self):
         """The states after each step. Of a joined model a step that takes an interrupt has no state of its own."""
@@ -76,8 +99,8 @@ class Comparison:
         if wrong:
             raise Wrong(f"the ROM doesn't bring it to the boot state: {shown(wrong, self.ours.states[0], self.theirs[0])}")
         at = 0
-        for step, after in zip(self.ours.steps, self.ours.states[1:]):
-            self.note(step, after)
+        for step, before, after in zip(self.ours.steps, self.ours.states, self.ours.states[1:]):
+            self.note(step, before, after)
             if self.model.IS_JOINED and step.does.startswith("irq "):
                 continue
             at += 1
@@ -89,7 +112,7 @@ class Comparison:
     def is_left_out(self, at, ours, byte):
         """Whether a byte of memory may differ so."""
         apart = ours[at] ^ byte
-        is_flags = apart == RF >> 16 and (at - 2) & 0xFFF in self.pushed
+        is_flags = any(not apart & ~(self.pushed.get(at - byte_of_it & 0xFFF, 0) >> 8 * byte_of_it) for byte_of_it in range(4))
         is_flat_segment = ours[at] & 0x90 == 0x90 and ours[at + 1 : at + 2] == b"\xcf"
         return is_flags or not self.model.WRITES_ACCESSED and apart == 1 and ours[at] & 1 == 1 and is_flat_segment
 

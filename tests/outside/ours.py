@@ -31,6 +31,15 @@ def said_by(*words):
     return done.stdout
 
 
+def linked(pv, source, place):
+    """Burns and links a source; `place` is the files' name without its ending. Gives the image's name."""
+    with open(f"{place}.s", "w", encoding="ascii") as file:
+        file.write(source)
+    said_by(pv, "burn", f"{place}.s", f"{place}.o")
+    said_by(pv, "link", f"{place}.img", f"{place}.o")
+    return f"{place}.img"
+
+
 def changed(state, entries):
     """A state after the entries of a step's line; EIP isn't among them."""
     after = dict(state)
@@ -97,9 +106,15 @@ class Ours:
         self.items = [it for it in ITEM.findall(text.decode("latin-1")) if int(it[0]) < len(self.steps)]
         return last is not None or self.stop is not None
 
-    def whole(self, script):
+    def rises(self):
+        """The script's lines for the edges that its OUTs ask for, with their steps."""
+        steps = [(int(step) + 1, RISES[port, value]) for step, port, value in self.items if (port, value) in RISES]
+        return [(step, f"{step} line {line}") for step, line in steps]
+
+    def whole(self, script, edges):
+        """Reads the run up to the kernel's end, or until it asks for other edges than these: without them it may halt for ever."""
         bound = FIRST_BOUND
-        while not self.asked(script, bound):
+        while not self.asked(script, bound) and self.rises() == edges:
             bound *= 4
             if bound > LAST_BOUND:
                 raise Wrong(f"the kernel doesn't end in {LAST_BOUND} steps")
@@ -110,9 +125,8 @@ class Ours:
         edges = []
         for _ in range(RUNS):
             script = "".join(f"{line}\n" for _, line in sorted([*lines, *edges], key=lambda it: it[0]))
-            self.whole(script)
-            risen = [(int(step) + 1, RISES[port, value]) for step, port, value in self.items if (port, value) in RISES]
-            wanted = [(step, f"{step} line {line}") for step, line in risen]
+            self.whole(script, edges)
+            wanted = self.rises()
             if edges == wanted:
                 return script
             edges = wanted[: len(edges) + 1]

@@ -25,13 +25,14 @@ TEXT = b"""0 0 10000220 movl $0x5,%eax | eax 00000005
 7 0 1000012b movl 0x66666666,%ecx | #PF 0000 at 66666666 -> 100000a0  esp c00fffe4  cr2 66666666
 8 0 100000a0 movl $0xe,%edx | edx 0000000e
 9 0 100000a5 movl %eax,%ds | ds 0008
-10 0 100000aa jmp 0x100000aa
-end steps 11
+10 0 100000aa shll $0x1,%edx | edx 0000001c  eflags 00000002
+11 0 100000ac jmp 0x100000ac
+end steps 12
 """
 ITEMS = [("5", "0379", "ff")]
-INTERRUPT, AND, FOREIGN_IN, FAULT = 3, 2, 5, 7      # numbers of steps
+INTERRUPT, AND, FOREIGN_IN, FAULT, SHIFT = 3, 2, 5, 7, 10       # numbers of steps
 ZF = 0x40                                           # a bit that is changed: of EFLAGS one that each instruction here defines or keeps
-LEFT_OUT = 4
+LEFT_OUT = 6
 
 
 def run():
@@ -99,15 +100,22 @@ def test():
         count += of_registers(ours, model)
     theirs = ours.states
     count += of_memory(ours, theirs, alone)
-    # what is left out: RF; a flag that AND leaves undefined; EAX after an IN of a foreign device; RF in the frame of a fault
+    # what is left out: RF; flags that AND and a shift by 1 leave undefined; EAX after an IN of a foreign device; RF in the frame of a fault
     unseen(difference(ours, [*theirs[:-1], theirs[-1] | {"eflags": theirs[-1]["eflags"] | 0x10000}], ours.memory, alone), "RF")
     unseen(difference(ours, changed(theirs, AND + 1, "eflags", 0x10), ours.memory, alone), "AF after AND")
+    unseen(difference(ours, changed(theirs, SHIFT + 1, "eflags", 0x10), ours.memory, alone), "AF after SHL")
     free = [state if number != FOREIGN_IN + 1 else state | {"eax": 0x7F} for number, state in enumerate(theirs)]
     unseen(difference(ours, free, ours.memory, alone), "EAX after IN")
     memory = bytearray(ours.memory)
     memory[(ours.states[FAULT + 1]["esp"] + 12 + 2) & 0xFFF] ^= 1
     unseen(difference(ours, theirs, bytes(memory), alone), "RF in a frame")
-    # and where they aren't: AF after another instruction, and EAX after an instruction that both have
+    memory = bytearray(ours.memory)
+    memory[(ours.states[INTERRUPT + 1]["esp"] + 8) & 0xFFF] ^= 0x10
+    count += seen(difference(ours, theirs, bytes(memory), alone), None, "memory")
+    unseen(difference(ours, changed(theirs, AND + 1, "eflags", 0x10), bytes(memory), alone), "AF in a frame")
+    # and where they aren't: AF after another instruction, CF and OF after a shift by 1, EAX after an instruction that both have
     count += seen(difference(ours, changed(theirs, AND, "eflags", 0x10), ours.memory, alone), AND - 1, "eflags")
+    for flag in (1, 0x800):
+        count += seen(difference(ours, changed(theirs, SHIFT + 1, "eflags", flag), ours.memory, alone), SHIFT, "eflags")
     count += seen(difference(ours, changed(theirs, FOREIGN_IN + 2, "eax", 1), ours.memory, alone), FOREIGN_IN + 1, "eax")
     return count

@@ -12,6 +12,7 @@ TESTS = 45
 BASE, DIRECTORY, TABLES, PAGES = 0x08000000, 0xC0001080, 0xC0030000, 0xC0040000
 WORDS = (1, 3, 5, 7, 0x27, 0x65, 0x67, 7, 6, 0)
 UP = 0x84                           # INT of this vector goes on at level 0
+DEFINED = "addl $1,%esi"            # after AND or OR, which leave AF undefined: PUSHF shows it
 STOPPING = 0x3F4100                 # flags whose pop stops a run: TF, NT and bits 16 to 21
 
 ABOUT = "Random privileged instructions of seed {seed}.\nSDM volume 3, chapters 2 to 7; volume 2 by instruction."
@@ -89,7 +90,7 @@ class Maker:
         return self.random.choice((
             "movl %cr0,%eax", "movl %cr2,%ebx", "movl %cr3,%ecx", "movl %cr4,%edx",
             f"movl ${self.random.getrandbits(32):#x},%eax; movl %eax,%cr2",
-            RELOAD, WP, "movl %cr0,%eax; andl $0xFFFEFFFF,%eax; movl %eax,%cr0; addl $1,%esi", "movl %cr0,%eax; movl %eax,%cr0",
+            RELOAD, f"{WP}; {DEFINED}", f"movl %cr0,%eax; andl $0xFFFEFFFF,%eax; movl %eax,%cr0; {DEFINED}", "movl %cr0,%eax; movl %eax,%cr0",
             "lidt idtr", "lgdt gdtr", f"invlpg {self.address():#x}", "hlt" if self.level else "nop",
         ))
 

@@ -5,7 +5,9 @@ Not proved; they rest on the manuals that they name.
 import importlib
 import inspect
 
-SUBJECTS = ("segments", "levels", "returns", "deliveries", "paging", "translations", "code", "tables", "interrupts", "serial")
+SUBJECTS = (
+    "segments", "levels", "returns", "deliveries", "paging", "translations", "code", "arithmetic", "tables", "interrupts", "timer", "serial",
+)
 
 
 def all_kernels():

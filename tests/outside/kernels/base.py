@@ -95,6 +95,7 @@ class Kernel:
     pages   how many pages of text code at level 3 may use
     data    the selector that DS and ES have when code at level 3 begins
     script  the text of the script
+    timer   whether it uses the timer, so that only a model whose time are its instructions can run it
     after_stop  whether the run has to stop at a delivery that fails, and the outside model to meet a fault there
     may_stop    whether the run may stop by name, and is compared up to there
     """
@@ -103,7 +104,7 @@ class Kernel:
         self.user, self.pages, self.data = user, pages, data
         self.gates, self.gdt, self.tails = dict(gates or {}), dict(gdt or {}), dict(tails or {})
         self.ss0, self.esp0 = ss0, esp0
-        self.script, self.after_stop, self.may_stop = "", after_stop, False
+        self.script, self.timer, self.after_stop, self.may_stop = "", False, after_stop, False
         self.first, self.lines, self.last, self.labels = [], [], [], 0
 
     def __call__(self, text):

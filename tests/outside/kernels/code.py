@@ -58,14 +58,17 @@ def stacks():
     k("pusha; popa; movl %esp,%ebx; pushl %ebx; popl %ebx")
     k("pushl 4(%esp); pushl (%esp); call A1; A1: addl $4,%esp; pushl $0; pushl $0; pushl $0; pushl $A2; ret $12; A2: nop")
     k("pushl $A3; movl %esp,%eax; jmp *(%eax); A3: movl $A4,(%esp); call *(%esp); A4: movl $A5,%esp; call A5; A5: movl $stack,%esp")
-    k("pushl $-1; movl %esp,%eax; pushl %cs; pushl %ds; pushl %es; pushl %ss; popl %ss; popl %es; popl %ds; popl %eax")
+    k("pushl $8; pushl $0x12340010; pushl $0xFFFF0010; pushl $0x10; popl %ss; popl %es; popl %ds; popl %eax")
     k("movl $-1,scratch; movl $-1,scratch+4; movl %ss,scratch; movl %cs,scratch+5; movl $-1,%eax; movl %ds,%eax")
     k("movl $-1,(%esp); movl %cs,(%esp); movl %ss,2(%esp)")
     k("movl $stack,%ebp; pushl $3; movl %esp,%ebp; leave; movl $resume,%ebp; movl $stack,%esp")
-    k("pushl $A6; ret $0xFFFF; A6: movl $stack,%esp; pushl $A7; ret $1; A7: movl $stack,%esp")
+    k("pushl $A6; ret $1; A6: movl $stack,%esp")
     k("xchgl %esp,%eax; xchgl %esp,%eax; xchgl %eax,(%esp); lea 4(%esp),%esp; movl $stack,%esp")
     k("pushf; popl %eax; stc; pushf; popl %eax; std; pushf; popl %eax; cld; sti; pushf; popl %eax; cli; pushf; popl %eax")
     yield "stack-ops", k
+    k = Kernel()
+    k("pushl $A1; ret $0x7FFF; A1: movl $stack,%esp; pushl $A2; ret $0xFFFF; A2: movl $stack,%esp")
+    yield "ret-number", k
 
 
 def quotients():

@@ -1,5 +1,5 @@
 """Deliveries of events through the IDT: gates, stacks, saved words, and those that fail."""
-from kernels.base import LIMIT, NOT_DELIVERED, SEL, Kernel, gate
+from kernels.base import LIMIT, NOT_DELIVERED, SEL, WITH_CODE, WP, Kernel, gate
 
 # an instruction that raises or asks for each vector; that of 12 depends on the level
 RAISED = (
@@ -79,6 +79,48 @@ def nested():
     yield "nested", k
 
 
+def last_entries():
+    """A gate, a code segment and a stack segment whose last byte the limit of their table has are taken; `fails-` has those that aren't.
+    SDM volume 3, 6.10 (IDT), 3.5.1 (segment descriptor tables)."""
+    k = Kernel(user=True)
+    k.begin(f"movw ${8 * 0x83 + 7:#x},idtr; lidt idtr")
+    k.test("int $0x83")
+    yield "last-gate", k
+    for what, name, others in (
+        ("code", "freshcode0", {"gates": {0x83: gate(SEL["freshcode0"], 0x83, 0xEE)}}), ("stack", "ss0fresh", {"ss0": SEL["ss0fresh"]}),
+    ):
+        k = Kernel(user=True, **others)
+        k.begin(f"movw ${SEL[name] + 7:#x},gdtr; lgdt gdtr")
+        k.test("int $0x83; movl %ss,%eax")
+        yield f"last-{what}", k
+
+
+def error_codes():
+    """Error codes, which these handlers take into ECX: of page faults by access, page, level and WP, of loads of segments, and of INT.
+    SDM volume 3, 4.7 (page-fault exceptions), 6.13 (error code)."""
+    tail = "popl %ecx; movl (%ebp),%ebx; movl %ebx,(%esp); iret"
+    for user in (False, True):
+        for wp in (False, True):
+            k = Kernel(user=user, pages=4, tails={vector: tail for vector in WITH_CODE})
+            k.begin("movl $0x30007,0xC0001080")
+            for at, word in enumerate((1, 3, 5, 7, 6)):
+                k.begin(f"movl ${0x40000 + 4096 * at | word:#x},{0xC0030000 + 4 * at:#x}; movl $0x0B0F,{0xC0040124 + 4096 * at:#x}")
+            if wp:
+                k.begin(WP)
+            for address in (*range(0x08000124, 0x08005124, 0x1000), 0x08400124):
+                for test in ("movl {a},%eax", "movl %eax,{a}", "cmpl $0,{a}", "movl ${a},%eax; jmp *%eax"):
+                    k.test("movl $0x0B0F,%eax; " + test.format(a=f"{address:#x}"))
+            for selector in (SEL["absdata0"], SEL["absdata3"] | 3, SEL["code0"], SEL["task"], 0x7F8, 0x7FB, SEL["data0"] | 3):
+                for seg in ("ds", "es", "ss"):
+                    if seg == "ss" or selector != SEL["code0"]:
+                        k.test(f"movl ${selector:#x},%eax; movl %eax,%{seg}")
+                        k(f"movl ${0x23 if user else 0x10:#x},%eax; movl %eax,%ds; movl %eax,%es; movl %eax,%ss")
+            if user:
+                for vector in (0x81, 13, 0xFF, 0):
+                    k.test(f"int ${vector:#x}")
+            yield f"codes-{'u' if user else 'k'}{'-wp' if wp else ''}", k
+
+
 def that_fail():
     """Each test of a delivery that stops the run here (DeliveryFailed): the outside model has to meet a fault there too.
     SDM volume 3, 6.11 to 6.13, 6.15 (interrupts 8 and 10 to 13)."""
@@ -112,4 +154,4 @@ def that_fail():
     yield "fails-esp0-absent", failing(good, True, esp0=0x0A000000)
 
 
-FAMILIES = (gates_and_levels, stack_over_two_pages, task_segments, fourth_bytes, nested, that_fail)
+FAMILIES = (gates_and_levels, stack_over_two_pages, task_segments, fourth_bytes, nested, last_entries, error_codes, that_fail)

@@ -36,11 +36,17 @@ def level_0():
         "movl $0x12345678,%ebx; movl %ebx,%cr2; movl %cr2,%esi", "ud2", "int $0x80", "int $0x81", "int3", "int $0x82",
         "movl $0,%edx; movl $0,%ecx; divl %ecx", "divb %cl", "movl $0x80000000,%eax; cltd; movl $-1,%ecx; idivl %ecx",
         "movl %cs,%eax; movl %ss,%ebx; movl %ds,%ecx; movl %es,%esi", "movl $-1,scratch; movl %cs,scratch",
-        "pushl $-1; popl %eax; pushl %cs; popl %eax", "pushl $-1; popl %eax; pushl %ds; popl %ds",
         "pushl $0x12340010; popl %es", "movl $0xABCD0010,%eax; movl %eax,%es",
     ):
         k.test(test)
     yield "kernel-basics", k
+    k = Kernel()
+    for test in (
+        "pushl $-1; popl %eax; pushl %cs; popl %eax", "pushl $-1; popl %eax; pushl %ds; popl %ds",
+        "pushl $-1; pushl %cs; pushl %ds; pushl %es; pushl %ss; popl %ss; popl %es; popl %ds; popl %eax; popl %eax",
+    ):
+        k.test(test)
+    yield "push-segment", k
 
 
 def int_vectors():

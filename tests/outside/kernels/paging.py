@@ -151,6 +151,11 @@ def large_pages():
     k.test("movl 0x08000000,%eax")
     k.test("movl %eax,0x08000000")
     yield "pse-bit12", k
+    k = Kernel()
+    k.begin("movl $0x10,%eax; movl %eax,%cr4; movl $0x87,0xC0001080; movl $0x1111,0xC0200010; movl $0x2222,0xC03FF020")
+    for at in (0x08200010, 0x083FF020, 0x08000010, 0x081FF020):
+        k.test(f"movl {at:#x},%eax")
+    yield "pse-halves", k
 
 
 def other_bits():

@@ -1,5 +1,5 @@
 """IRET: its selectors, its stack, the accessed flags that it sets, and what DS and ES become."""
-from kernels.base import SEL, Kernel, name_of, selectors
+from kernels.base import SEL, Kernel, selectors
 
 
 def selectors_of_cs():
@@ -16,15 +16,17 @@ def selectors_of_cs():
 
 
 def selectors_of_ss():
-    """Which SS a return to level 3 takes, and what each other one raises.
+    """Which SS a return to level 3 takes, and what each other one raises: those of data at level 3 that isn't present apart.
     SDM volume 2, IRET (return to outer privilege level: SS's tests)."""
-    k = Kernel(pages=3)
-    for selector in selectors():
-        if name_of(selector) in ("data3", "data3b") and selector & 3 == 3:
-            continue                    # these go through
-        k.test(f"pushl ${selector:#x}; pushl $ustack; pushl $0xCD6; pushl $0x1B; pushl $0x12345; iret")
-        k("movl $stack,%esp")
-    yield "iret-ss-k", k
+    taken = [SEL["data3"] | 3, SEL["data3b"] | 3]       # these go through
+    absent = [SEL["absdata3"] | 3]
+    others = [selector for selector in selectors() if selector not in taken + absent]
+    for name, tried in (("iret-ss-k", others), ("iret-ss-absent-k", absent)):
+        k = Kernel(pages=3)
+        for selector in tried:
+            k.test(f"pushl ${selector:#x}; pushl $ustack; pushl $0xCD6; pushl $0x1B; pushl $0x12345; iret")
+            k("movl $stack,%esp")
+        yield name, k
 
 
 def segments_at_level_3():
@@ -68,17 +70,18 @@ def stack_over_two_pages():
 
 
 def stack_of_level_0():
-    """At level 3, with ESP in a page of level 0: IRET, POP, POPF, RET, PUSH, PUSHA, POPA and CALL raise #PF by level 3's rights.
+    """At level 3, with ESP in a page of level 0: POP, POPF, RET, PUSH, POPA and CALL, and PUSHA and IRET apart, raise #PF by its rights.
     SDM volume 3, 4.6.1 (user-mode accesses)."""
-    k = Kernel(user=True)
-    for offset, test in (
-        (20, "iret"), (20, "popl %eax"), (20, "popl %ds"), (20, "popf"), (20, "ret"), (20, "pushl %eax"), (20, "pusha"), (40, "popa"),
-        (40, "call done"),
-    ):
-        k.test(f"movl $stack-{offset},%esp; {test}")
-        k("movl $ustack,%esp")
-    k("movl $0x23,%eax; movl %eax,%ds")
-    yield "stack-super-u", k
+    others = (
+        (20, "popl %eax"), (20, "popl %ds"), (20, "popf"), (20, "ret"), (20, "pushl %eax"), (40, "popa"), (40, "call done"),
+    )
+    for name, tests in (("", others), ("iret-", ((20, "iret"),)), ("pusha-", ((20, "pusha"),))):
+        k = Kernel(user=True)
+        for offset, test in tests:
+            k.test(f"movl $stack-{offset},%esp; {test}")
+            k("movl $ustack,%esp")
+        k("movl $0x23,%eax; movl %eax,%ds")
+        yield f"stack-super-{name}u", k
 
 
 def virtual_8086_mode():

@@ -127,4 +127,24 @@ def table_limits():
         yield f"gdt-limit-{cut}", k
 
 
-FAMILIES = (data_segments, null_accesses, null_and_other_causes, far_jumps, task_registers, table_limits)
+LOADS = (
+    ("freshdata0", "movl ${s},%eax; movl %eax,%ds"), ("freshdata0", "movl ${s},%eax; movl %eax,%es"),
+    ("freshdata0", "movl ${s},%eax; movl %eax,%ss"),
+    ("freshcode0", "ljmp ${s},$E{n}; E{n}: movl %cs,%eax"), ("freshcode0", "pushl $2; pushl ${s}; pushl $E{n}; iret; E{n}: movl %cs,%eax"),
+    ("task2", "movl ${s},%eax; ltr %ax"),
+)
+
+
+def last_descriptors():
+    """A descriptor whose last byte the limit has is loaded into DS, ES, SS, CS and TR; with a lower limit it is beyond.
+    SDM volume 3, 3.5.1 (segment descriptor tables)."""
+    for cut in (0, 1, 7, 8):
+        k = Kernel()
+        for number, (name, test) in enumerate(LOADS):
+            k(f"movw ${SEL[name] + 7 - cut:#x},gdtr; lgdt gdtr")
+            k.test(test.format(s=f"{SEL[name]:#x}", n=number))
+            k("movl %ds,%eax; movl %es,%ebx; movl %ss,%ecx; movl $0x10,%eax; movl %eax,%ds; movl %eax,%es; movl %eax,%ss; movl $stack,%esp")
+        yield f"gdt-end-{cut}", k
+
+
+FAMILIES = (data_segments, null_accesses, null_and_other_causes, far_jumps, task_registers, table_limits, last_descriptors)

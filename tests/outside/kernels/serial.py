@@ -21,10 +21,12 @@ def registers_of_port():
     k("incl %edx; movb $0x01,%al; outb %al,%dx; inb %dx,%al")
     k("movl $0x3FB,%edx; movb $0x03,%al; outb %al,%dx; movl $0x3F9,%edx; inb %dx,%al")
     k("movl $0x3FA,%edx; inb %dx,%al; movl $0x3FD,%edx; inb %dx,%al; movb $0x55,%al; outb %al,%dx; inb %dx,%al")
-    k("movl $0x3FE,%edx; inb %dx,%al; movb $0x55,%al; outb %al,%dx; inb %dx,%al")
     k("movl $0x3FA,%edx; movb $0x02,%al; outb %al,%dx; inb %dx,%al")
     k("movl $0x3F8,%edx; movb $0x41,%al; outb %al,%dx; inb %dx,%al")
     yield "uart", k
+    k = Kernel()
+    k("movl $0x3FE,%edx; inb %dx,%al; movb $0x55,%al; outb %al,%dx; inb %dx,%al")
+    yield "uart-modem-status", k
 
 
 def received():
