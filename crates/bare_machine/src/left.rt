@@ -51,7 +51,7 @@ fn is_nothing(dropped: Dropped) -> bool
     }
 }
 
-/// The same of a step that changed one translation and drops none.
+/// Keeps what a step leaves in the cache, of a step that changed one translation and drops none.
 fn keep_one<C: Cache>(kept: &mut Cached<C>, changes: &Changes, change: Change, pages: &Visited)
     requires one { changes.now ≡ change ∷ [] }
     requires told { AreToldIn pages.now changes.now }
@@ -76,7 +76,7 @@ fn is_change<C: Cache>(cache: &C, change: Change) -> bool
     }
 }
 
-/// The same of a step that changed some translations, which few steps do with more than one.
+/// Keeps what a step leaves in the cache, of a step that changed some translations, which few steps do with more than one.
 #[inline(never)]
 fn keep_new<C: Cache>(kept: &mut Cached<C>, changes: &Changes, pages: &Visited, dropped: Dropped)
     requires told { AreToldIn pages.now changes.now }

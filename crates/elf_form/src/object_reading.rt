@@ -274,7 +274,7 @@ pub fn read_object(alloc: Global, bytes: &[u8]) -> Result<Object, ElfFault>
     ensures only { (object : ObjectParts) → ObjectAs bytes.now object → Gives (λ o. o) result (Ok object) }
     // A fault is the first cause that holds, at its place.
     ensures first { (at : ℕ) (cause : ElfCause) → result ≡ Err (ElfFault.At at cause) → IsFirstOf (wrong_object bytes.now) causes at cause }
-    // The same by the causes' conditions: at the cause's place its own holds, and at no place does one of a cause before it.
+    // A fault by the causes' conditions: at the cause's place its own holds, and at no place does one of a cause before it.
     ensures refused { (at : ℕ) (cause : ElfCause) → result ≡ Err (ElfFault.At at cause) → IsRefusedObject bytes.now at cause }
     ensures refused_only { (at : ℕ) (cause : ElfCause) → IsRefusedObject bytes.now at cause → Gives (λ o. o) result (no_object at cause) }
     ensures exact { Gives (λ o. o) result (object_in bytes.now) }

@@ -117,7 +117,7 @@ pub fn read_image(alloc: Global, bytes: &[u8]) -> Result<Image, ElfFault>
     ensures only { (image : ImageParts) → ImageAs bytes.now image → Gives (λ image. image) result (Ok image) }
     // A fault is the first cause that holds, at its place.
     ensures first { (at : ℕ) (cause : ElfCause) → result ≡ Err (ElfFault.At at cause) → IsFirstOf (wrong_image bytes.now) causes at cause }
-    // The same by the causes' conditions: at the cause's place its own holds, and at no place does one of a cause before it.
+    // A fault by the causes' conditions: at the cause's place its own holds, and at no place does one of a cause before it.
     ensures refused { (at : ℕ) (cause : ElfCause) → result ≡ Err (ElfFault.At at cause) → IsRefusedImage bytes.now at cause }
     ensures refused_only { (at : ℕ) (cause : ElfCause) → IsRefusedImage bytes.now at cause
         → Gives (λ image. image) result (no_image at cause) }

@@ -183,7 +183,7 @@ pub fn check(alloc: Global, bytes: &[u8]) -> Result<Checked, CheckFault>
         × ImageAs bytes.now parts × IsFirstOf (wrong parts) causes at cause }
     ensures first_only { (parts : ImageParts) (at : ℕ) (cause : CheckCause) → ImageAs bytes.now parts
         → IsFirstOf (wrong parts) causes at cause → Gives (λ checked. checked) result (Err (Wrong at cause)) }
-    // The same by the causes' conditions: the cause's holds there, and none before it in their order.
+    // A refusal by the causes' conditions: the cause's holds there, and none before it in their order.
     ensures refused { (at : ℕ) (cause : CheckCause) → result ≡ Err (CheckFault.At at cause) → (parts : ImageParts)
         × ImageAs bytes.now parts × IsRefused parts at cause }
     ensures refused_only { (parts : ImageParts) (at : ℕ) (cause : CheckCause) → ImageAs bytes.now parts

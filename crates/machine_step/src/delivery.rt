@@ -118,7 +118,7 @@ pub fn refuse<M: StepMemory>(
     }
 }
 
-/// The same, where the step is recorded in its place.
+/// A fetch by the processor of a step that is recorded in its place is denied or stops.
 pub fn refuse_at<M: StepMemory>(
     rules: &Rules,
     worked: &mut Worked,

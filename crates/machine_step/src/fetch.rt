@@ -37,7 +37,7 @@ pub fn fetch<M: StepMemory>(mem: &mut M, user: bool, at: u32) -> Result<Decoded,
     }
 }
 
-/// The same, where the instruction is put into its place.
+/// Fetches the instruction at a linear address, as `fetch`, into the place that the caller has for it.
 pub fn fetch_into<M: StepMemory>(
     mem: &mut M,
     user: bool,

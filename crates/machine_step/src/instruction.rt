@@ -55,7 +55,7 @@ pub fn carry_out<M: StepMemory>(
     }
 }
 
-/// The same, where the step is recorded in its place.
+/// Carries an instruction out, as `carry_out`, in a step that is recorded in its place.
 pub fn carry_out_at<M: StepMemory>(
     rules: &Rules,
     insn: &Insn,

@@ -168,7 +168,8 @@ pub fn step_in<B: Translations>(
     }
 }
 
-/// The same, where the step is recorded in its place. From here on the parts of its memory are one value.
+/// One step in its memory, of which nothing was used yet, recorded in the place that the caller has for it. From here on the
+/// parts of its memory are one value.
 pub fn step_at<B: Translations>(
     rules: &Rules,
     worked: &mut Worked,

@@ -134,7 +134,7 @@ pub fn put_seen<O: Sink>(step: u64, seen: Seen, out: &mut O) -> Result<(), Faile
     put_some(step, seen, out)
 }
 
-/// The same where it is something.
+/// Puts the lines of what a step let be seen, where it is something.
 #[inline(never)]
 fn put_some<O: Sink>(step: u64, seen: Seen, out: &mut O) -> Result<(), Failed>
     ensures ok { OnOk result (Appends (O.taken out.old) (O.taken out.new) (lines_of (items_at step (whats seen)))) }

@@ -38,7 +38,7 @@ impl FrameSet {
         }
     }
 
-    /// The same frames.
+    /// A copy of the set.
     pub fn copy(&self) -> FrameSet
         ensures { result ≡ self.now }
     {

@@ -46,7 +46,7 @@ impl Pair {
         }
     }
 
-    /// The same pair.
+    /// A copy of the pair.
     pub fn copy(&self) -> Pair
         ensures { result ≡ self.now }
     {
@@ -58,7 +58,7 @@ impl Pair {
         }
     }
 
-    /// The same in the place of another pair.
+    /// Views that keep nothing, of tables that weren't read yet, in the place of another pair.
     pub fn begin(&mut self, ram: &mut Ram, pool: &mut Pool, cr3: u32)
         requires stands { Stands pool.old ram.old }
         requires free { 2 ≤ length (free_list pool.old ram.old) }

@@ -178,7 +178,7 @@ impl Shadow {
         self.hold(ram, pool, side, entry, wp, false);
     }
 
-    /// The same, but without the right to write where the frame is barred from writes.
+    /// Drops the page in both views, and then holds it in one, without the right to write where the frame is barred from writes.
     pub fn hold(
         &mut self,
         ram: &mut Ram,

@@ -217,7 +217,7 @@ pub trait Shadows {
     ghost barred: { (s : Self) (m : List ℕ) (page : ℕ) (slot : Slot) → ∥ stands s m ∥₁ → page < 2 ^ 20
         → slots s m page ≡ Some slot → is_among slot.entry.frame (write_protected s) ≡ true → slot.writes ≡ false };
 
-    /// The same of what is kept for other values of CR3.
+    /// What is kept for other values of CR3: a page's entry is of that page, and can be filled again.
     ghost other_roots_fit: { (s : Self) (m : List ℕ) → ∥ stands s m ∥₁ → AllFit (other_roots s m) };
 
     ghost other_roots_barred: { (s : Self) (m : List ℕ) → ∥ stands s m ∥₁

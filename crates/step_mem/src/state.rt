@@ -87,14 +87,14 @@ impl<'a> StepState<'a> {
         };
     }
 
-    /// The same state again.
+    /// A copy of the state.
     pub fn copied(&self) -> StepState<'a>
         ensures { result ≡ self.now }
     {
         self.under(self.guard)
     }
 
-    /// The same state under another guard.
+    /// A copy of the state, under another guard.
     pub fn under<'b>(&self, guard: Guard<'b>) -> StepState<'b>
         ensures { result ≡ record self.now { guard = guard.entry } }
     {

@@ -104,7 +104,7 @@ pub fn begin_native<'t, S: Reloads + Drop>(
     try_once(running, pool, ram, image, text, notes_wanted, state)
 }
 
-/// The same where frames are free for the pages of an instruction, and the next one doesn't clash with what is kept.
+/// Begins the step, where frames are free for the pages of an instruction, and the next one doesn't clash with what is kept.
 fn try_once<'t, S: Reloads + Drop>(
     running: &mut Running<S>,
     pool: &mut Pool,

@@ -68,7 +68,7 @@ pub fn one_step<'t, S: Reloads + Drop, H: Host>(
     on_host(running, pool, host, image, text, notes_wanted, state)
 }
 
-/// The same where the host may do the instruction, and nothing is lost yet.
+/// One step whose instruction the host may do, and before which nothing is lost.
 fn on_host<'t, S: Reloads + Drop, H: Host>(
     running: &mut Running<S>,
     pool: &mut Pool,

@@ -49,7 +49,7 @@ impl Progress {
         })
     }
 
-    /// The same as a step's state, under a guard of these frames.
+    /// What a step has come to as a step's state, under a guard of these frames.
     pub fn state<'t>(&self, text: &'t Option<Text<'t>>) -> StepState<'t>
         requires { IsPlain text.now self.now.first self.now.count }
         ensures state { result ≡ state_by result.guard self.now }

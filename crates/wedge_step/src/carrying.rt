@@ -14,8 +14,8 @@ pub fn known_laws()
     roomy_is_few();
 }
 
-/// The same, and what is known goes on over steps in which the run has no part; the rule for kept translations holds of one
-/// step more.
+/// What a run knows goes on over a step that it settles and ends, and over steps in which the run has no part; the rule for
+/// kept translations holds of one step more.
 pub fn carry_laws()
     ensures { CarryLaws }
 {

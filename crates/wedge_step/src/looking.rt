@@ -285,7 +285,7 @@ pub(crate) fn read(
     }
 }
 
-/// The same byte by byte.
+/// Bytes of a page as a fetch reads them, whose walks have set their flags by then, one after another.
 fn read_marked(
     view: &GuestView<'_>,
     earlier: Option<Marks>,
