@@ -10,7 +10,7 @@ use Rattle.ia32_types.specs.declared.flags.Flags.{Flags}
 use Rattle.ia32_types.specs.declared.insn.Op.TheVariants.{Add, Adc, Sub, Sbb}
 use Rattle.ia32_types.specs.Size.{span}
 use Rattle.ia32_types.specs.Bits.{bit, worth, signed_at, fits_at, signed, low}
-use Rattle.ia32_types.specs.Flags.{carry_at}
+use Rattle.ia32_types.specs.declared.flags.TheConstants.{CARRY_AT}
 use Rattle.ia32_alu.specs.Arithmetic.{alu}
 use Rattle.ia32_alu.specs.Sums.{sum, sum_overflows, difference, difference_overflows}
 use Rattle.ia32_alu.specs.Status.{settled, of_result}
@@ -125,16 +125,16 @@ unfolding alu
 added s a b f = tells_sum s (low s a) (low s b) 0 f (low_small s a) (low_small s b) (omega arith)
 
 pub added_with_carry : (s : Size) (a b : ℕ) (f : Flags) →
-    TellsSum s (low s a) (low s b) (worth (bit f.bits carry_at)) (alu Adc s a b f).0 (alu Adc s a b f).1
+    TellsSum s (low s a) (low s b) (worth (bit f.bits CARRY_AT)) (alu Adc s a b f).0 (alu Adc s a b f).1
 unfolding alu
-added_with_carry s a b f = tells_sum s (low s a) (low s b) (worth (bit f.bits carry_at)) f (low_small s a) (low_small s b) (worth_small _)
+added_with_carry s a b f = tells_sum s (low s a) (low s b) (worth (bit f.bits CARRY_AT)) f (low_small s a) (low_small s b) (worth_small _)
 
 pub subtracted : (s : Size) (a b : ℕ) (f : Flags) → TellsDifference s (low s a) (low s b) 0 (alu Sub s a b f).0 (alu Sub s a b f).1
 unfolding alu
 subtracted s a b f = tells_difference s (low s a) (low s b) 0 f (low_small s a) (low_small s b) (omega arith)
 
 pub subtracted_with_borrow : (s : Size) (a b : ℕ) (f : Flags) →
-    TellsDifference s (low s a) (low s b) (worth (bit f.bits carry_at)) (alu Sbb s a b f).0 (alu Sbb s a b f).1
+    TellsDifference s (low s a) (low s b) (worth (bit f.bits CARRY_AT)) (alu Sbb s a b f).0 (alu Sbb s a b f).1
 unfolding alu
 subtracted_with_borrow s a b f =
-    tells_difference s (low s a) (low s b) (worth (bit f.bits carry_at)) f (low_small s a) (low_small s b) (worth_small _)
+    tells_difference s (low s a) (low s b) (worth (bit f.bits CARRY_AT)) f (low_small s a) (low_small s b) (worth_small _)

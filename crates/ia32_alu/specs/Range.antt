@@ -4,19 +4,19 @@ use Rattle.ia32_types.specs.declared.flags.Flags.{Flags}
 use Rattle.ia32_types.specs.declared.size.Size.{Size}
 use Rattle.ia32_types.specs.Size.{span}
 use Rattle.ia32_types.specs.Bits.{bit, signed, fits}
-use Rattle.ia32_types.specs.Flags.{carry_at, overflow_at}
+use Rattle.ia32_types.specs.declared.flags.TheConstants.{CARRY_AT, OVERFLOW_AT}
 
 -- CF is set exactly where a + b + c is out of the unsigned range, and OF exactly where the signed
 -- sum is out of the signed range; where a flag is clear the result r is that sum
 pub record TellsSum (s : Size) (a b c r : ℕ) (f : Flags) : Type 0 where
-  pub carry : bit f.bits carry_at ≡ not (nat_lt (a + b + c) (span s))
-  pub unsigned_sum : bit f.bits carry_at ≡ false → r ≡ a + b + c
-  pub overflow : bit f.bits overflow_at ≡ not (fits s (signed s a +ℤ signed s b +ℤ pos c))
-  pub signed_sum : bit f.bits overflow_at ≡ false → signed s r ≡ signed s a +ℤ signed s b +ℤ pos c
+  pub carry : bit f.bits CARRY_AT ≡ not (nat_lt (a + b + c) (span s))
+  pub unsigned_sum : bit f.bits CARRY_AT ≡ false → r ≡ a + b + c
+  pub overflow : bit f.bits OVERFLOW_AT ≡ not (fits s (signed s a +ℤ signed s b +ℤ pos c))
+  pub signed_sum : bit f.bits OVERFLOW_AT ≡ false → signed s r ≡ signed s a +ℤ signed s b +ℤ pos c
 
 -- the same of a - b - c, which is out of the unsigned range where it is below 0
 pub record TellsDifference (s : Size) (a b c r : ℕ) (f : Flags) : Type 0 where
-  pub carry : bit f.bits carry_at ≡ nat_lt a (b + c)
-  pub unsigned_difference : bit f.bits carry_at ≡ false → r + (b + c) ≡ a
-  pub overflow : bit f.bits overflow_at ≡ not (fits s (signed s a -ℤ signed s b -ℤ pos c))
-  pub signed_difference : bit f.bits overflow_at ≡ false → signed s r ≡ signed s a -ℤ signed s b -ℤ pos c
+  pub carry : bit f.bits CARRY_AT ≡ nat_lt a (b + c)
+  pub unsigned_difference : bit f.bits CARRY_AT ≡ false → r + (b + c) ≡ a
+  pub overflow : bit f.bits OVERFLOW_AT ≡ not (fits s (signed s a -ℤ signed s b -ℤ pos c))
+  pub signed_difference : bit f.bits OVERFLOW_AT ≡ false → signed s r ≡ signed s a -ℤ signed s b -ℤ pos c

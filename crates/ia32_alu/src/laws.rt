@@ -7,7 +7,7 @@ ghost use Rattle.ia32_types.specs.declared.size.Size.{Size};
 ghost use Rattle.ia32_types.specs.declared.insn.Op.TheVariants.{Add, Adc, Sub, Sbb, Cmp};
 ghost use Rattle.ia32_types.specs.Size.{span};
 ghost use Rattle.ia32_types.specs.Bits.{bit, worth, low, signed, signed_at, fits};
-ghost use Rattle.ia32_types.specs.Flags.{carry_at};
+ghost use Rattle.ia32_types.specs.declared.flags.TheConstants.{CARRY_AT};
 ghost use Rattle.ia32_alu.specs.Arithmetic.{alu};
 ghost use Rattle.ia32_alu.specs.Product.{multiply, double_top};
 ghost use Rattle.ia32_alu.specs.Quotient.{divide};
@@ -19,14 +19,14 @@ ghost use Rattle.ia32_alu.specs.Compare.{TellsCompared};
 pub fn sums_in_range()
     ensures add { (s : Size) (a b : ℕ) (f : Flags) → TellsSum s (low s a) (low s b) 0 (alu Add s a b f).0 (alu Add s a b f).1 }
     ensures with_carry { (s : Size) (a b : ℕ) (f : Flags) →
-        TellsSum s (low s a) (low s b) (worth (bit f.bits carry_at)) (alu Adc s a b f).0 (alu Adc s a b f).1 }
+        TellsSum s (low s a) (low s b) (worth (bit f.bits CARRY_AT)) (alu Adc s a b f).0 (alu Adc s a b f).1 }
 {}
 
 /// After SUB and SBB, CF and OF say exactly whether the unsigned and the signed difference are out of range.
 pub fn differences_in_range()
     ensures subtract { (s : Size) (a b : ℕ) (f : Flags) → TellsDifference s (low s a) (low s b) 0 (alu Sub s a b f).0 (alu Sub s a b f).1 }
     ensures with_borrow { (s : Size) (a b : ℕ) (f : Flags) →
-        TellsDifference s (low s a) (low s b) (worth (bit f.bits carry_at)) (alu Sbb s a b f).0 (alu Sbb s a b f).1 }
+        TellsDifference s (low s a) (low s b) (worth (bit f.bits CARRY_AT)) (alu Sbb s a b f).0 (alu Sbb s a b f).1 }
 {}
 
 /// DIV and IDIV: the dividend is the quotient times the divisor, and the remainder.

@@ -9,7 +9,7 @@ use Rattle.ia32_types.specs.declared.insn.Op.{Op}
 use Rattle.ia32_types.specs.declared.insn.Op.TheVariants as op
 use Rattle.ia32_types.specs.declared.insn.Operand.{Operand}
 use Rattle.ia32_types.specs.declared.insn.Operand.TheVariants.{Absent, Register, Memory, Segment, Control}
-use Rattle.ia32_types.specs.Flags.{carry_at, direction_at}
+use Rattle.ia32_types.specs.declared.flags.TheConstants.{CARRY_AT, DIRECTION_AT}
 use Rattle.ia32_exec.specs.declared.outcome.Outcome.{Outcome}
 use Rattle.ia32_exec.specs.Operands.{to_destination, kept_in}
 use Rattle.ia32_exec.specs.Registers.{with_register, with_whole, eip_past}
@@ -239,10 +239,10 @@ row_leads op.Ud2 i len r b = tt
 row_leads op.Movs i len r b = string_leads op.Movs i len r b tt refl
 row_leads op.Stos i len r b = string_leads op.Stos i len r b tt refl
 row_leads op.Lods i len r b = string_leads op.Lods i len r b tt (with_register_eip i.size 0 _ r)
-row_leads op.Clc i len r b = flag_leads op.Clc i len r b carry_at false
-row_leads op.Stc i len r b = flag_leads op.Stc i len r b carry_at true
-row_leads op.Cld i len r b = flag_leads op.Cld i len r b direction_at false
-row_leads op.Std i len r b = flag_leads op.Std i len r b direction_at true
+row_leads op.Clc i len r b = flag_leads op.Clc i len r b CARRY_AT false
+row_leads op.Stc i len r b = flag_leads op.Stc i len r b CARRY_AT true
+row_leads op.Cld i len r b = flag_leads op.Cld i len r b DIRECTION_AT false
+row_leads op.Std i len r b = flag_leads op.Std i len r b DIRECTION_AT true
 row_leads op.PushFlags i len r b = flags_pushed_leads op.PushFlags i len r b
 row_leads op.PopFlags i len r b = flags_popped_leads op.PopFlags i len r b
 row_leads _ i len r b = tt

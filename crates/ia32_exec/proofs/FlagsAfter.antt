@@ -13,7 +13,8 @@ use Rattle.ia32_types.specs.declared.insn.Op.{Op}
 use Rattle.ia32_types.specs.declared.insn.Op.TheVariants.{Add, Or, Adc, Sbb, And, Sub, Xor, Cmp, Test, Not, Neg, Mul, Imul, ImulBy, Div, Idiv, Inc, Dec, Rol, Ror, Shl, Shr, Sar, Mov, Movzx, Movsx, Lea, Xchg, Push, Pop, Pusha, Popa, Cwde, Cdq, Leave, Nop, Jcc, Setcc, Jmp, Call, Ud2, Movs, Stos, Lods, Clc, Stc, Cld, Std, PushFlags, PopFlags, ReadSeg, PushSeg, Return, JumpTo, CallTo}
 use Rattle.ia32_types.specs.Bits.{worth}
 use Rattle.ia32_types.proofs.FlagBits.{put_apart}
-use Rattle.ia32_types.specs.Flags.{carry_at, parity_at, adjust_at, zero_at, sign_at, direction_at, overflow_at, flag_put}
+use Rattle.ia32_types.specs.declared.flags.TheConstants.{CARRY_AT, PARITY_AT, ADJUST_AT, ZERO_AT, SIGN_AT, DIRECTION_AT, OVERFLOW_AT}
+use Rattle.ia32_types.specs.Flags.{flag_put}
 use Rattle.ia32_types.specs.Size.{span}
 use Rattle.ia32_alu.specs.declared.status.Status.{Status}
 use Rattle.ia32_alu.specs.Status.{changed, settled}
@@ -94,17 +95,17 @@ change_kept f at (Some v) h = h v
 settled_kept : (s : Status) (f : Flags) → AreKept f (settled s f)
 unfolding settled
 settled_kept s f =
-    let c = changed f carry_at s.carry in
-    let p = changed c parity_at s.parity in
-    let a = changed p adjust_at s.adjust in
-    let z = changed a zero_at s.zero in
-    let n = changed z sign_at s.sign in
-    kept_on f c _ (change_kept f carry_at s.carry (kept_0 f))
-    (kept_on c p _ (change_kept c parity_at s.parity (kept_2 c))
-    (kept_on p a _ (change_kept p adjust_at s.adjust (kept_4 p))
-    (kept_on a z _ (change_kept a zero_at s.zero (kept_6 a))
-    (kept_on z n _ (change_kept z sign_at s.sign (kept_7 z))
-    (change_kept n overflow_at s.overflow (kept_11 n))))))
+    let c = changed f CARRY_AT s.carry in
+    let p = changed c PARITY_AT s.parity in
+    let a = changed p ADJUST_AT s.adjust in
+    let z = changed a ZERO_AT s.zero in
+    let n = changed z SIGN_AT s.sign in
+    kept_on f c _ (change_kept f CARRY_AT s.carry (kept_0 f))
+    (kept_on c p _ (change_kept c PARITY_AT s.parity (kept_2 c))
+    (kept_on p a _ (change_kept p ADJUST_AT s.adjust (kept_4 p))
+    (kept_on a z _ (change_kept a ZERO_AT s.zero (kept_6 a))
+    (kept_on z n _ (change_kept z SIGN_AT s.sign (kept_7 z))
+    (change_kept n OVERFLOW_AT s.overflow (kept_11 n))))))
 
 taken_kept : (f : Flags) (v : ℕ) → AreKept f (taken f v)
 unfolding taken
@@ -300,10 +301,10 @@ module _ (i : Insn) (len : ℕ) (r : Regs) where
   row_leaves Stos b =
       of_over (is_over i r) _ (turn Stos i.size r b).1 Nothing (of_counted i.rep _ (turn Stos i.size r b).1 (record { flags = refl }))
   row_leaves Lods b = of_over (is_over i r) _ Nothing Nothing (of_counted i.rep _ Nothing (turned_lods _))
-  row_leaves Clc b = of_flag carry_at false (kept_0 r.flags)
-  row_leaves Stc b = of_flag carry_at true (kept_0 r.flags)
-  row_leaves Cld b = of_flag direction_at false (kept_10 r.flags)
-  row_leaves Std b = of_flag direction_at true (kept_10 r.flags)
+  row_leaves Clc b = of_flag CARRY_AT false (kept_0 r.flags)
+  row_leaves Stc b = of_flag CARRY_AT true (kept_0 r.flags)
+  row_leaves Cld b = of_flag DIRECTION_AT false (kept_10 r.flags)
+  row_leaves Std b = of_flag DIRECTION_AT true (kept_10 r.flags)
   row_leaves PushFlags b = kept_same r.flags
   row_leaves PopFlags b = of_flags (is_foreign (top_of_stack r b)) (top_of_stack r b)
   row_leaves Jcc b = of_branch (condition i.sel r.flags) Nothing

@@ -10,7 +10,7 @@ use Rattle.ia32_types.specs.declared.insn.Insn.{Insn}
 use Rattle.ia32_types.specs.declared.insn.Op.{Op}
 use Rattle.ia32_types.specs.declared.insn.Op.TheVariants.{Add, Or, Adc, Sbb, And, Sub, Xor, Cmp, Test, Not, Neg, Mul, Imul, ImulBy, Div, Idiv, Inc, Dec, Rol, Ror, Shl, Shr, Sar, Mov, Movzx, Movsx, Lea, Xchg, Push, Pop, Pusha, Popa, Cwde, Cdq, Leave, Nop, Jcc, Setcc, Jmp, Call, Ud2, Movs, Stos, Lods, Clc, Stc, Cld, Std, PushFlags, PopFlags, ReadSeg, PushSeg, Return, JumpTo, CallTo}
 use Rattle.ia32_types.specs.Size.{width}
-use Rattle.ia32_types.specs.Flags.{carry_at, direction_at}
+use Rattle.ia32_types.specs.declared.flags.TheConstants.{CARRY_AT, DIRECTION_AT}
 use Rattle.ia32_exec.specs.declared.outcome.Outcome.{Outcome}
 use Rattle.ia32_exec.specs.declared.outcome.Outcome.TheVariants.{Done, Raise, Stop}
 use Rattle.ia32_exec.specs.declared.outcome.Stores.TheVariants.{Nothing}
@@ -70,10 +70,10 @@ row Ud2 i len r b = Raise 6 0
 row Movs i len r b = string Movs i len r b
 row Stos i len r b = string Stos i len r b
 row Lods i len r b = string Lods i len r b
-row Clc i len r b = flag_made carry_at false len r
-row Stc i len r b = flag_made carry_at true len r
-row Cld i len r b = flag_made direction_at false len r
-row Std i len r b = flag_made direction_at true len r
+row Clc i len r b = flag_made CARRY_AT false len r
+row Stc i len r b = flag_made CARRY_AT true len r
+row Cld i len r b = flag_made DIRECTION_AT false len r
+row Std i len r b = flag_made DIRECTION_AT true len r
 row PushFlags i len r b = flags_pushed len r
 row PopFlags i len r b = flags_popped len r b
 row _ i len r b = Stop Unsupported

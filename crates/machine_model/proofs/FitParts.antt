@@ -5,7 +5,8 @@ use Rattle.std.proofs.lemmas.List.{get_or-set_other, get_or-set_same}
 use Rattle.std.proofs.lemmas.Nat.{and_block, and_or_apart, and_mask}
 use Rattle.std.proofs.lemmas.Bool.{not-false, eqb-true}
 use Rattle.ia32_types.specs.Bits.{bit}
-use Rattle.ia32_types.specs.Flags.{interrupt_at, flag_put}
+use Rattle.ia32_types.specs.declared.flags.TheConstants.{INTERRUPT_AT}
+use Rattle.ia32_types.specs.Flags.{flag_put}
 use Rattle.ia32_types.proofs.FlagBits.{set_is, put_apart}
 use Rattle.ia32_types.specs.declared.flags.Flags.{Flags}
 use Rattle.ia32_exec.specs.FlagsAfter.{AreSet, AreKept}
@@ -32,7 +33,7 @@ set_flags f g s h = still_flags f.bits g.bits s.fixed s.others h
 set_on : (f g h : Flags) → AreSet f g → AreSet g h → AreSet f h
 set_on f g h p q = record { fixed = q.fixed ∙ p.fixed; others = q.others ∙ p.others }
 
-pub set_interrupt : (f : Flags) (b : Bool) → AreSet f (flag_put f interrupt_at b)
+pub set_interrupt : (f : Flags) (b : Bool) → AreSet f (flag_put f INTERRUPT_AT b)
 set_interrupt f b =
     record { fixed = put_apart f.bits 9 2 b (omega arith) refl; others = put_apart f.bits 9 4294951208 b (omega arith) refl }
 
@@ -58,7 +59,7 @@ popped_set images cpu image =
     let i = with_interrupt cpu t image in
     let two = flag_put i 12 (bit image 12) in
     set_on cpu.regs.flags t _ (images cpu.regs.flags image).set
-    (set_on t i _ (set_choice (is_within cpu) t _ t (set_interrupt t (bit image interrupt_at)) (same_set t))
+    (set_on t i _ (set_choice (is_within cpu) t _ t (set_interrupt t (bit image INTERRUPT_AT)) (same_set t))
     (set_choice (cpu.cpl == 0) i _ i (set_on i two _ (set_12 i (bit image 12)) (set_13 two (bit image 13))) (same_set i)))
 
 -- ---- controls

@@ -1,6 +1,7 @@
 -- How each row leaves the processor. What a step keeps of a processor is read off this.
 use Rattle.std.proofs.Common.{ap, ◌∙◌, ◌≡◌, ℕ, ◌+◌, ◌%◌, ◌^◌, ◌==◌, Bool, true, false, cond, ◌&&◌, refl, ◌||◌, slice_set, nat_lt, bit_and, bit_or, arith}
-use Rattle.ia32_types.specs.Flags.{interrupt_at, flag_put}
+use Rattle.ia32_types.specs.declared.flags.TheConstants.{INTERRUPT_AT}
+use Rattle.ia32_types.specs.Flags.{flag_put}
 use Rattle.ia32_types.specs.declared.flags.Flags.{Flags}
 use Rattle.ia32_types.specs.declared.insn.Insn.{Insn}
 use Rattle.ia32_types.specs.declared.insn.Op.{Op}
@@ -56,7 +57,7 @@ drops_all e = false
 pub data Left (cpu : Cpu) (load : Bool) : SysOutcome → Type 0 where
   beside : load ≡ false → (new : Cpu) (e : SysEffect) → drops_all e ≡ false → IsBeside cpu cpu.regs.flags new
       → Left cpu load (record { cpu = new; effect = e })
-  interrupts : load ≡ false → (new : Cpu) (b : Bool) → is_within cpu ≡ true → IsBeside cpu (flag_put cpu.regs.flags interrupt_at b) new
+  interrupts : load ≡ false → (new : Cpu) (b : Bool) → is_within cpu ≡ true → IsBeside cpu (flag_put cpu.regs.flags INTERRUPT_AT b) new
       → Left cpu load (record { cpu = new; effect = effects.Next })
   popped_flags : load ≡ false → (new : Cpu) (image : ℕ) → IsBeside cpu (new_flags cpu image) new
       → Left cpu load (record { cpu = new; effect = effects.Next })

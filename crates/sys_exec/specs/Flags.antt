@@ -3,7 +3,8 @@ use Rattle.std.specs.Prelude.{ℕ, true, false, ◌||◌, not}
 use Rattle.ia32_types.specs.declared.flags.Flags.{Flags}
 use Rattle.ia32_types.specs.declared.stop.Stop.TheVariants as stops
 use Rattle.ia32_types.specs.Bits.{bit}
-use Rattle.ia32_types.specs.Flags.{interrupt_at, flag_put}
+use Rattle.ia32_types.specs.declared.flags.TheConstants.{INTERRUPT_AT}
+use Rattle.ia32_types.specs.Flags.{flag_put}
 use Rattle.ia32_exec.specs.Stack.{popf}
 use Rattle.paging.specs.Work.{Work, ◌>>=◌, gives, unless}
 use Rattle.descriptors.specs.declared.cpu.Cpu.{Cpu}
@@ -21,14 +22,14 @@ with_flags cpu flags = with_regs cpu (record cpu.regs { flags = flags })
 unfoldable pub clear_interrupts : ℕ → Cpu → Work Refusal SysOutcome
 clear_interrupts len cpu = do
   _ ← unless protection_0 (is_within cpu)
-  next (with_flags (past cpu len) (flag_put cpu.regs.flags interrupt_at false))
+  next (with_flags (past cpu len) (flag_put cpu.regs.flags INTERRUPT_AT false))
 
 -- STI; where it turns IF on, external interrupts are held off in the next step
 unfoldable pub set_interrupts : ℕ → Cpu → Work Refusal SysOutcome
 set_interrupts len cpu = do
   _ ← unless protection_0 (is_within cpu)
-  next (record (with_flags (past cpu len) (flag_put cpu.regs.flags interrupt_at true))
-      { held = cpu.held || not (bit cpu.regs.flags.bits interrupt_at) })
+  next (record (with_flags (past cpu len) (flag_put cpu.regs.flags INTERRUPT_AT true))
+      { held = cpu.held || not (bit cpu.regs.flags.bits INTERRUPT_AT) })
 
 -- HLT
 unfoldable pub halt : ℕ → Cpu → Work Refusal SysOutcome

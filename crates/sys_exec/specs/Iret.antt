@@ -5,7 +5,8 @@ use Rattle.ia32_types.specs.declared.size.Size.TheVariants.{Long}
 use Rattle.ia32_types.specs.declared.flags.Flags.{Flags}
 use Rattle.ia32_types.specs.declared.stop.Stop.TheVariants as stops
 use Rattle.ia32_types.specs.Bits.{bit}
-use Rattle.ia32_types.specs.Flags.{interrupt_at, flag_put}
+use Rattle.ia32_types.specs.declared.flags.TheConstants.{INTERRUPT_AT}
+use Rattle.ia32_types.specs.Flags.{flag_put}
 use Rattle.ia32_exec.specs.Stack.{is_foreign, taken}
 use Rattle.paging.specs.Work.{Work, ◌>>=◌, gives, unless, reads}
 use Rattle.descriptors.specs.declared.controls.TheConstants.{EFLAGS_IOPL}
@@ -49,7 +50,7 @@ is_within cpu = nat_le cpu.cpl (cpu.regs.flags.bits / EFLAGS_IOPL % 4)
 
 -- IF is popped where the level is within IOPL
 abbrev pub with_interrupt : Cpu → Flags → ℕ → Flags
-with_interrupt cpu flags image = if is_within cpu then flag_put flags interrupt_at (bit image interrupt_at) else flags
+with_interrupt cpu flags image = if is_within cpu then flag_put flags INTERRUPT_AT (bit image INTERRUPT_AT) else flags
 
 -- IOPL is popped at level 0
 abbrev pub with_level : Cpu → Flags → ℕ → Flags

@@ -3,7 +3,8 @@ use Rattle.std.proofs.Common.{◌≡◌, ℕ, ◌+◌, ◌-◌, ◌/◌, ◌%◌
 use Rattle.std.specs.Prelude.{nat_le, slice_index, slice_index_or, slice_set}
 use Rattle.ia32_types.specs.declared.flags.Flags.{Flags}
 use Rattle.ia32_types.specs.Bits.{bit}
-use Rattle.ia32_types.specs.Flags.{interrupt_at, flag_put}
+use Rattle.ia32_types.specs.declared.flags.TheConstants.{INTERRUPT_AT}
+use Rattle.ia32_types.specs.Flags.{flag_put}
 use Rattle.std.proofs.lemmas.Bool.Decides.{nat_tests}
 use Rattle.ia32_exec.specs.Stack.{is_foreign, taken}
 use Rattle.descriptors.specs.declared.cpu.Cpu.{Cpu}
@@ -53,9 +54,9 @@ code_len_few None = omega arith
 code_len_few (Some c) = omega arith
 
 -- EFLAGS; level 0 is within each IOPL
-interrupt_taken : (h : Cpu) (f : Flags) (image : ℕ) → is_within h ≡ true → with_interrupt h f image ≡ flag_put f interrupt_at
-    (bit image interrupt_at)
-interrupt_taken h f image e = ap (λ c. cond c (flag_put f interrupt_at (bit image interrupt_at)) f) e
+interrupt_taken : (h : Cpu) (f : Flags) (image : ℕ) → is_within h ≡ true → with_interrupt h f image ≡ flag_put f INTERRUPT_AT
+    (bit image INTERRUPT_AT)
+interrupt_taken h f image e = ap (λ c. cond c (flag_put f INTERRUPT_AT (bit image INTERRUPT_AT)) f) e
 
 none_below : (n : ℕ) → nat_le 0 n ≡ true
 none_below n = grind (arith, nat_tests)
