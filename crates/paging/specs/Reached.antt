@@ -4,6 +4,7 @@ use Rattle.std.specs.Prelude.{ℕ, ◌*◌, ◌/◌, List, [], ◌∷◌, Bool, 
 use Rattle.guest_ram.specs.Bytes.{word32}
 use Rattle.paging.specs.declared.entry.Walk.{Walk}
 use Rattle.paging.specs.declared.entry.Walk.TheVariants.{Absent, Beyond, Reserved, Found}
+use Rattle.paging.specs.declared.bits.TheConstants.{PTE_P}
 use Rattle.paging.specs.Fresh.{has, dir_place, fresh, grants}
 
 -- the frame, or none where the access is denied; a frame that isn't there counts as not present
@@ -18,7 +19,7 @@ abbrev pub reached : List ℕ → ℕ → ℕ → ℕ → Bool → Option ℕ
 reached ram frames root page write = reached_by write (fresh ram frames (4096 * root) false page)
 
 abbrev pub with_table : ℕ → List ℕ
-with_table dir = if has dir 1 then (dir / 4096) ∷ [] else []
+with_table dir = if has dir PTE_P then (dir / 4096) ∷ [] else []
 
 -- the frames that such a walk reads: the directory, and the table that its word names
 abbrev pub walk_frames : List ℕ → ℕ → ℕ → List ℕ

@@ -14,6 +14,7 @@ use Rattle.paging.specs.declared.entry.Walk.TheVariants.{Absent, Beyond, Reserve
 use Rattle.paging.specs.declared.entry.Touch.{Touch}
 use Rattle.paging.specs.declared.entry.Touch.TheVariants.{Ready, Fault, Stop}
 use Rattle.paging.specs.Space.{Mode, Bare, Wedge, Space, earlier_of, frames_of}
+use Rattle.paging.specs.declared.bits.TheConstants.{PTE_P, PTE_A, PTE_D}
 use Rattle.paging.specs.Fresh.{has, dir_place, is_large, fresh, tables_read, grants, allows, flagged}
 
 -- the frame holds text
@@ -60,7 +61,7 @@ tables_of s = record { ram = s.ram; frames = s.frames; cr3 = s.cr3; pse = s.pse;
 
 -- the table that a PDE names stands in a frame that holds text
 abbrev pub table_is_text : Mode → Bool → ℕ → Bool
-table_is_text mode pse dir = has dir 1 && (not (is_large pse dir) && is_text mode (dir / 4096))
+table_is_text mode pse dir = has dir PTE_P && (not (is_large pse dir) && is_text mode (dir / 4096))
 
 -- a walk reads a PDE or a PTE in a frame that holds text
 unfoldable pub walks_text : Tables → ℕ → Bool
@@ -71,8 +72,8 @@ walks_text s page =
 -- a walk turns a clear flag on in a byte of the instruction
 unfoldable pub marks_own : Tables → ℕ → ℕ → Bool → Bool
 marks_own s dir_at word_at write =
-    (is_own s.mode dir_at && not (has (byte s.ram dir_at) 0x20))
-    || (is_own s.mode word_at && (not (has (byte s.ram word_at) 0x20) || (write && not (has (byte s.ram word_at) 0x40))))
+    (is_own s.mode dir_at && not (has (byte s.ram dir_at) PTE_A))
+    || (is_own s.mode word_at && (not (has (byte s.ram word_at) PTE_A) || (write && not (has (byte s.ram word_at) PTE_D))))
 
 -- the code of a page fault
 abbrev pub fault_code : Bool → Access → ℕ
