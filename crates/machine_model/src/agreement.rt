@@ -1,4 +1,4 @@
-//! Laws of what a monitor's rules add to steps and runs, and of what a step reports.
+//! Laws of what a monitor's rules add to steps and runs (a simulation, step by step), and of what a step reports.
 
 ghost use Rattle.machine_model.specs.Agreement.{BareIsPlain, StepsAgree, RunsAgree};
 ghost use Rattle.machine_model.specs.Owned.{OwnsItsBytes};

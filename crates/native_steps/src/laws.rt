@@ -1,4 +1,4 @@
-//! Laws of one instruction, and of a stretch of them, on the guest and on the host.
+//! Laws of one instruction, and of a stretch of them, on the guest and on the host (a simulation, both ways).
 
 ghost use Rattle.native_steps.specs.Forward.{Forward, NotEntered, AtSites};
 ghost use Rattle.native_steps.specs.Backward.{Backward, NativeCompletes};

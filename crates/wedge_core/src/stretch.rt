@@ -1,4 +1,4 @@
-//! Instructions that the host does one after the other.
+//! Instructions that the host does one after the other (direct execution).
 
 ghost use Rattle.std.specs.Prelude.{◌≡◌, ℕ, ◌+◌, ◌-◌, ◌*◌, ◌/◌, ◌%◌, ◌==◌, ◌≤◌, ◌<◌, ◌^◌, true, false};
 ghost use Rattle.frame_pool.specs.declared.Pool.{Pool as Frames};

@@ -1,4 +1,4 @@
-//! The end of a step: the shadows keep what the step left.
+//! The end of a step: the shadows keep what the step left (shadow synchronisation).
 
 ghost use Rattle.std.specs.Prelude.{◌≡◌, ◌*◌, length, take, IfSome};
 ghost use Rattle.frame_pool.specs.Pool.{base_of, free_list};

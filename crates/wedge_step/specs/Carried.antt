@@ -1,4 +1,4 @@
--- What a patched run knows of its steps, by what its shadows keep.
+-- What a patched run knows of its steps, by what its shadows keep (the loop invariant for kept translations).
 use Rattle.std.specs.Prelude.{◌≡◌, ℕ, eqb, List}
 use Rattle.std.specs.Set.{is_member}
 use Rattle.shadow_tables.specs.Entries.{entries_of}

@@ -14,13 +14,14 @@ use Rattle.wedge_step.specs.Ready.{IsReady}
 use Rattle.wedge_step.specs.Scene.{Scene, free, frames_in, kept_in, state_in}
 use Rattle.wedge_step.specs.Standing.{IsHeld, ground}
 
--- a step that stopped: neither it nor a page was counted
+-- a step that stopped: neither it nor a page was counted (a frame condition)
 pub record Stays {S : Type 0} (old new : Scene S) : Type 0 where
   pub step : new.guest.step ≡ old.guest.step
   pub fills : new.guest.fills ≡ old.guest.fills
 
 module _ {S : Type 0} (g : shadows.Ghosts S) where
-  -- It stands over the host's memory and the pool, what it keeps can be found again, and frames suffice for a step.
+  -- It stands over the host's memory and the pool, what it keeps can be found again, and frames suffice for a step (the loop invariant
+  -- of the patched run).
   pub record IsBetween (image : Image) (c : Scene S) : Type 0 where
     pub held : IsHeld g (ground image c.guest.frames) c.guest c.pool c.memory
     pub ready : IsReady g (ground image c.guest.frames) c.guest.cpu c.guest.shadows c.memory

@@ -1,4 +1,4 @@
-//! One step that the host has no part in.
+//! One step that the host has no part in; of a sensitive instruction this is trap and emulate.
 
 ghost use Rattle.std.specs.Prelude.{◌≡◌, ℕ, Bool, true, false, OnErr, OnOk, ◌+◌, ◌*◌, ◌/◌, ◌==◌, ◌≤◌, ◌<◌, ◌^◌};
 ghost use Rattle.board.specs.Boards.{board_step};
