@@ -1,9 +1,9 @@
 -- Of what bytes spell, the instructions of the list of sites are the sensitive ones.
-use Rattle.std.proofs.Common.{◌≡◌, ℕ, zero, suc, ◌+◌, ◌-◌, ◌<◌, Bool, true, List, [], ◌∷◌, ◌++◌, length, get_or, map, Some, None, refl, sym, ap, subst, ◌∙◌, zero-add, inl, inr, arith}
+use Rattle.std.proofs.Common.{◌≡◌, ℕ, zero, suc, ◌+◌, ◌-◌, ◌<◌, Bool, true, List, [], ◌∷◌, ◌++◌, length, get_or, map, Option, Some, None, refl, sym, ap, subst, ◌∙◌, zero-add, inl, inr, arith}
 use Rattle.std.specs.Prelude.{◌↔◌, is_none}
-use Rattle.std.specs.List.{list_all, AllByRecursion, Contains}
+use Rattle.std.specs.List.{list_all, Contains}
 use Rattle.std.proofs.lemmas.Bool.{cases_lt}
-use Rattle.std.proofs.lemmas.List.{length-append}
+use Rattle.std.proofs.lemmas.List.{length-append, get_or-map}
 use Rattle.std.proofs.lemmas.List.Sums.{AllPass-from_list_all}
 use Rattle.plain_laws.proofs.Options.{none_is}
 use Rattle.ia32_types.specs.declared.insn.Insn.{Insn}
@@ -16,22 +16,24 @@ use Rattle.ia32_rows.specs.Spells.{Spells}
 use Rattle.ia32_rows.specs.Rows.{plain_rows, sites, site_row, rows}
 use Rattle.ia32_rows.specs.Sites.{IsSite}
 
-abbrev OfKind : SiteKind × Row → Type 0
-OfKind s = kind_of s.1.op ≡ Some s.0
+abbrev kind_by_op : SiteKind × Row → Option SiteKind
+kind_by_op s = kind_of s.1.op
 
-sites_have_kinds : AllByRecursion OfKind sites
-sites_have_kinds = (refl, (refl, (refl, (refl, (refl, (refl, (refl, (refl, (refl, (refl, (refl, (refl, (refl, (refl, (refl, (refl, (refl, (refl, (refl, (refl, (refl, (refl, (refl, (refl, (refl, (refl, (refl, (refl, (refl, (refl, (refl, (refl, (refl, (refl, tt))))))))))))))))))))))))))))))))))
+abbrev kind_in_list : SiteKind × Row → Option SiteKind
+kind_in_list s = Some s.0
+
+sites_have_kinds : map kind_by_op sites ≡ map kind_in_list sites
+sites_have_kinds = refl
+
+kind_at : (k : ℕ) (d : SiteKind × Row) → k < length sites → kind_by_op (get_or sites k d) ≡ kind_in_list (get_or sites k d)
+kind_at k d lt = sym (get_or-map kind_by_op sites k d None lt)
+    ∙ ap (λ (ks : List (Option SiteKind)). get_or ks k None) sites_have_kinds ∙ get_or-map kind_in_list sites k d None lt
 
 abbrev has_no_kind : Row → Bool
 has_no_kind r = is_none (kind_of r.op)
 
 plain_rows_have_none : list_all has_no_kind plain_rows ≡ true
 plain_rows_have_none = refl
-
-each : {X : Type 0} (P : X → Type 0) (xs : List X) → AllByRecursion P xs → (k : ℕ) (d : X) → k < length xs → P (get_or xs k d)
-each P [] h k d lt = absurd (omega arith)
-each P (x ∷ xs) h zero d lt = h.0
-each P (x ∷ xs) h (suc k) d lt = each P xs h.1 k d (omega arith)
 
 behind : (xs ys : List Row) (k : ℕ) (d : Row) → get_or (xs ++ ys) (length xs + k) d ≡ get_or ys k d
 behind [] ys k d = ap (λ n. get_or ys n d) (zero-add k)
@@ -79,7 +81,7 @@ module _ (row : Row) (c : Contains rows row) (kind : SiteKind) (sensitive : kind
             let lt : place < length sites = omega (arith, c.1, le, length-append plain_rows (map site_row sites), mapped_length sites) in
             let at : (get_or sites place (kind, row)).1 ≡ row = sym (mapped sites place (kind, row))
             ∙ sym (behind plain_rows (map site_row sites) place row) ∙ ap (λ n. get_or rows n row) k ∙ c.2 in
-            let of_kind = each OfKind sites sites_have_kinds place (kind, row) lt in
+            let of_kind = kind_at place (kind, row) lt in
             let same : (get_or sites place (kind, row)).0 ≡ kind =
             some_is _ _ (sym of_kind ∙ ap (λ (r : Row). kind_of r.op) at ∙ sensitive) in
             (place, lt, pair_is (get_or sites place (kind, row)) (kind, row) same at)
@@ -98,6 +100,6 @@ site_kinds bytes insn kind s =
       λ site.
           let o = op_of insn site.row site.parts site.by_row.means in
           let at : kind_of (get_or sites site.listed.0 (kind, site.row)).1.op ≡ Some (get_or sites site.listed.0 (kind, site.row)).0 =
-          each OfKind sites sites_have_kinds site.listed.0 (kind, site.row) site.listed.1 in
+          kind_at site.listed.0 (kind, site.row) site.listed.1 in
           ap kind_of o ∙ subst (λ (t : SiteKind × Row). kind_of t.1.op ≡ Some t.0) site.listed.2 at,
     )
