@@ -51,9 +51,9 @@ first_row ns other = get_or rows (get_or ns 0 0) other
 abbrev pub rows_are_listed : List ℕ → List ℕ → Bool
 rows_are_listed starts numbers = all_rows (listed starts numbers) 0 rows
 
--- each list is a part of the whole, of rows' numbers
-abbrev number_below : List ℕ → ℕ → Bool
-number_below ns i = nat_lt (slice_index ns i) 228
+-- each list is a part of the whole, of numbers below the count of rows
+abbrev number_below : ℕ → List ℕ → ℕ → Bool
+number_below count ns i = nat_lt (slice_index ns i) count
 
 abbrev in_order : List ℕ → ℕ → Bool
 in_order starts k = nat_le (slice_index starts k) (slice_index starts (k + 1))
@@ -61,12 +61,12 @@ in_order starts k = nat_le (slice_index starts k) (slice_index starts (k + 1))
 abbrev ends_within : List ℕ → List ℕ → ℕ → Bool
 ends_within starts numbers k = nat_le (slice_index starts (k + 1)) (length numbers)
 
-abbrev list_is_part : List ℕ → List ℕ → ℕ → Bool
-list_is_part starts numbers k = in_order starts k && ends_within starts numbers k
-    && all_under (length (listed starts numbers k)) (number_below (listed starts numbers k))
+abbrev list_is_part : ℕ → List ℕ → List ℕ → ℕ → Bool
+list_is_part count starts numbers k = in_order starts k && ends_within starts numbers k
+    && all_under (length (listed starts numbers k)) (number_below count (listed starts numbers k))
 
 abbrev pub lists_are_parts : List ℕ → List ℕ → Bool
-lists_are_parts starts numbers = all_under 512 (list_is_part starts numbers)
+lists_are_parts starts numbers = all_under 512 (list_is_part (length rows) starts numbers)
 
 -- a row is listed where there is no byte, and one after 0F where there is no second
 abbrev pub first_is_listed : List ℕ → List ℕ → Row → Bool
@@ -201,20 +201,16 @@ whole starts numbers t first bytes h n lt other =
 
 part : (starts numbers : List ℕ) → lists_are_parts starts numbers ≡ true → (k : ℕ) → k < 512
     → (slice_index starts k ≤ slice_index starts (k + 1)) × (slice_index starts (k + 1) ≤ length numbers)
-    × ((i : ℕ) → i < length (listed starts numbers k) → slice_index (listed starts numbers k) i < 228)
+    × ((i : ℕ) → i < length (listed starts numbers k) → slice_index (listed starts numbers k) i < length rows)
 part starts numbers t k lt =
     let ns = listed starts numbers k in
-    let a = and_parts (in_order starts k && ends_within starts numbers k) (all_under (length ns) (number_below ns))
-    (under 512 (list_is_part starts numbers) t k lt) in
+    let a = and_parts (in_order starts k && ends_within starts numbers k) (all_under (length ns) (number_below (length rows) ns))
+    (under 512 (list_is_part (length rows) starts numbers) t k lt) in
     let b = and_parts (in_order starts k) (ends_within starts numbers k) a.0 in (
       leb-true (slice_index starts k) (slice_index starts (k + 1)) b.0,
       leb-true (slice_index starts (k + 1)) (length numbers) b.1,
-      λ i at. ltb-true (slice_index ns i) 228 (under (length ns) (number_below ns) a.1 i at),
+      λ i at. ltb-true (slice_index ns i) (length rows) (under (length ns) (number_below (length rows) ns) a.1 i at),
     )
-
-rows_count : length rows ≡ 228
-unfolding rows
-rows_count = refl
 
 pub is_index : (starts numbers : List ℕ) → length starts ≡ 513 → lists_are_parts starts numbers ≡ true
     → rows_are_listed starts numbers ≡ true → ((other : Row) → first_is_listed starts numbers other ≡ true) → IsIndex starts numbers
@@ -222,7 +218,7 @@ is_index starts numbers count parts all first = record {
   keys = count;
   order = λ k lt. (part starts numbers parts k lt).0;
   ends = λ k lt. (part starts numbers parts k lt).1;
-  below = λ k lt i at. omega (arith, (part starts numbers parts k lt).2 i at, rows_count);
+  below = λ k lt i at. (part starts numbers parts k lt).2 i at;
   whole = whole starts numbers all first;
 }
 
