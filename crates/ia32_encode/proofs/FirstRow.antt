@@ -1,11 +1,9 @@
 -- The first row that can have an instruction: rows that can't suit are passed by.
-use Rattle.std.proofs.Common.{◌≡◌, ℕ, Bool, true, false, List, [], ◌∷◌, ◌++◌, Some, None, refl, sym, ap, ◌∙◌, arith}
-use Rattle.std.specs.Prelude.{◌&&◌, not, nat_le}
-use Rattle.std.specs.List.{list_all}
+use Rattle.std.proofs.Common.{◌≡◌, ℕ, Bool, true, false, List, [], ◌∷◌, Option, Some, None, refl, sym, ap, subst, ◌∙◌, inl, inr, ◌⊎◌, arith}
+use Rattle.std.specs.Prelude.{◌&&◌, nat_le, if◌then◌else◌}
 use Rattle.std.specs.Cmp.Derive.{both_true}
-use Rattle.std.proofs.lemmas.Bool.{eq-eqb, and_parts}
+use Rattle.std.proofs.lemmas.Bool.{eq-eqb, false≢true}
 use Rattle.std.proofs.lemmas.Bool.Decides.{nat_tests}
-use Rattle.std.proofs.lemmas.List.{append-nil}
 use denote.Enum.Bare.{true_same}
 use Rattle.ia32_types.specs.contracts.insn.Op.{the_type}
 use Rattle.ia32_types.specs.declared.insn.Insn.{Insn}
@@ -27,42 +25,56 @@ use Rattle.ia32_encode.proofs.Function.{suits_true, fails}
 abbrev pub Needs : (Row → Bool) → Wide → Insn → Type 0
 Needs can w i = (r : Row) → Suits r w i → can r ≡ true
 
-abbrev pub none_can : (Row → Bool) → List Row → Bool
-none_can can = list_all (λ r. not (can r))
+-- the first row of a table that passes a test
+abbrev pub first_that : (Row → Bool) → List Row → Option Row
+first_that can [] = None
+first_that can (r ∷ table) = if can r then Some r else first_that can table
 
-cannot : (b : Bool) → not b ≡ true → b ≡ true → ⊥
-cannot true h e = cc
-cannot false h e = cc
+found_here : (b : Bool) (x r : Row) (rest : Option Row) → (if b then Some x else rest) ≡ Some r → (x ≡ r) ⊎ ((b ≡ false) × (rest ≡ Some r))
+found_here true x r rest e = inl cc
+found_here false x r rest e = inr (refl, e)
 
-passed_by : (can : Row → Bool) (w : Wide) (i : Insn) → Needs can w i → (before after : List Row) → none_can can before ≡ true
-    → chosen_from (before ++ after) w i ≡ chosen_from after w i
+found_nowhere : (b : Bool) (x : Row) (rest : Option Row) → (if b then Some x else rest) ≡ None → (b ≡ false) × (rest ≡ None)
+found_nowhere true x rest e = absurd cc
+found_nowhere false x rest e = (refl, e)
+
+passed_by : (can : Row → Bool) (w : Wide) (i : Insn) → Needs can w i → (x : Row) (table : List Row) → can x ≡ false
+    → chosen_from (x ∷ table) w i ≡ chosen_from table w i
 unfolding chosen_from
-passed_by can w i needs [] after h = refl
-passed_by can w i needs (r ∷ before) after h =
-    let e = and_parts (not (can r)) (none_can can before) h in
-    rw (fails r w i (λ s. cannot (can r) e.0 (needs r s))) (passed_by can w i needs before after e.1)
+passed_by can w i needs x table f = rw (fails x w i (λ s. false≢true (sym f ∙ needs x s))) refl
 
 suited_first : (r : Row) (after : List Row) (w : Wide) (i : Insn) → Suits r w i
     → chosen_from (r ∷ after) w i ≡ Some (laid_out r.form (parts_for r w.disp i))
 unfolding chosen_from
 suited_first r after w i s = rw (suits_true r w i s) refl
 
+chosen_in : (can : Row → Bool) (w : Wide) (i : Insn) → Needs can w i → (table : List Row) (r : Row) → first_that can table ≡ Some r
+    → Suits r w i → chosen_from table w i ≡ Some (laid_out r.form (parts_for r w.disp i))
+chosen_in can w i needs [] r e s = absurd cc
+chosen_in can w i needs (x ∷ table) r e s =
+    elim (found_here (can x) x r (first_that can table) e) [
+      | inl same ↦ subst (λ (y : Row). chosen_from (y ∷ table) w i ≡ Some (laid_out r.form (parts_for r w.disp i))) (sym same)
+          (suited_first r table w i s)
+      | inr behind ↦ passed_by can w i needs x table behind.0 ∙ chosen_in can w i needs table r behind.1 s
+    ]
+
 -- what is chosen is by the first row that can suit, if it does
-pub first_of : (can : Row → Bool) (w : Wide) (i : Insn) → Needs can w i → (before after : List Row) (r : Row) → rows ≡ before ++ r ∷ after
-    → none_can can before ≡ true → Suits r w i
+pub first_of : (can : Row → Bool) (w : Wide) (i : Insn) → Needs can w i → (r : Row) → first_that can rows ≡ Some r → Suits r w i
     → chosen w i ≡ Some (laid_out r.form (parts_for r w.disp i))
 unfolding chosen
-first_of can w i needs before after r e h s =
-    ap (λ (t : List Row). chosen_from t w i) e ∙ passed_by can w i needs before (r ∷ after) h ∙ suited_first r after w i s
+first_of can w i needs r e s = chosen_in can w i needs rows r e s
 
-none_from : (w : Wide) (i : Insn) → chosen_from [] w i ≡ None
+none_in : (can : Row → Bool) (w : Wide) (i : Insn) → Needs can w i → (table : List Row) → first_that can table ≡ None
+    → chosen_from table w i ≡ None
 unfolding chosen_from
-none_from w i = refl
+none_in can w i needs [] e = refl
+none_in can w i needs (x ∷ table) e =
+    let none = found_nowhere (can x) x (first_that can table) e in
+    passed_by can w i needs x table none.0 ∙ none_in can w i needs table none.1
 
-pub none_of : (can : Row → Bool) (w : Wide) (i : Insn) → Needs can w i → none_can can rows ≡ true → chosen w i ≡ None
+pub none_of : (can : Row → Bool) (w : Wide) (i : Insn) → Needs can w i → first_that can rows ≡ None → chosen w i ≡ None
 unfolding chosen
-none_of can w i needs h =
-    ap (λ (t : List Row). chosen_from t w i) (sym (append-nil rows)) ∙ passed_by can w i needs rows [] h ∙ none_from w i
+none_of can w i needs e = none_in can w i needs rows e
 
 -- rows of this instruction and size
 abbrev pub is_of : Op → Size → Row → Bool

@@ -1,5 +1,5 @@
 -- A number or a register as the second operand, by the table: the first row that can spell it.
-use Rattle.std.proofs.Common.{◌≡◌, ℕ, zero, suc, ◌+◌, ◌*◌, ◌%◌, ◌<◌, Bool, true, false, List, [], ◌∷◌, ◌++◌, Some, None, length, replicate, take, drop, refl, sym, ap, subst, ◌∙◌, arith}
+use Rattle.std.proofs.Common.{◌≡◌, ℕ, zero, suc, ◌+◌, ◌*◌, ◌%◌, ◌<◌, Bool, true, false, List, [], ◌∷◌, ◌++◌, Some, None, length, replicate, refl, sym, ap, subst, ◌∙◌, arith}
 use Rattle.std.specs.Prelude.{◌-◌, ◌==◌, ◌&&◌, ◌||◌, not}
 use Rattle.std.specs.Cmp.Derive.{both_true}
 use Rattle.std.proofs.lemmas.Bool.{lt-ltb, and_parts, eq-eqb}
@@ -33,27 +33,15 @@ use Rattle.ia32_encode.specs.Parts.{rm_from, parts_for, form_fits, address_fits,
 use Rattle.ia32_encode.specs.Text.{laid_out, is_signed_byte, index_number, base_number, disp_len_of, memory_len, mode_for, scale_bits, disp_bytes, modrm, has_sib, memory_bytes}
 use Rattle.ia32_encode.specs.Short.{arithmetic, with_number, with_registers, plain, with_displacement, Begins, IsSpelledByDigit}
 use Rattle.ia32_encode.proofs.Back.{base_below}
-use Rattle.ia32_encode.proofs.FirstRow.{none_can, first_of, none_of, is_of, needs_same, code_itself, Needs}
+use Rattle.ia32_encode.proofs.FirstRow.{first_that, first_of, none_of, is_of, needs_same, code_itself, Needs}
 
 -- ---- a number that fits a signed byte
 
 abbrev short_row : ℕ → Op → Row
 short_row k o = row lead.Nothing 0x83 plus.Nothing (digit k) immediate.SignedByte o Long operands.Rm
 
--- each of the eight has nine rows, this one first
-short_at : (k : ℕ) → k < 8 → rows ≡ take (9 * k) rows ++ short_row k (arithmetic k) ∷ drop (9 * k + 1) rows
-unfolding rows
-short_at zero lt = refl
-short_at (suc zero) lt = refl
-short_at (suc (suc zero)) lt = refl
-short_at (suc (suc (suc zero))) lt = refl
-short_at (suc (suc (suc (suc zero)))) lt = refl
-short_at (suc (suc (suc (suc (suc zero))))) lt = refl
-short_at (suc (suc (suc (suc (suc (suc zero)))))) lt = refl
-short_at (suc (suc (suc (suc (suc (suc (suc zero))))))) lt = refl
-short_at (suc (suc (suc (suc (suc (suc (suc (suc n)))))))) lt = absurd (omega arith)
-
-short_is_first : (k : ℕ) → k < 8 → none_can (is_of (arithmetic k) Long) (take (9 * k) rows) ≡ true
+-- of the rows of each of the eight this one is first
+short_is_first : (k : ℕ) → k < 8 → first_that (is_of (arithmetic k) Long) rows ≡ Some (short_row k (arithmetic k))
 unfolding rows
 short_is_first zero lt = refl
 short_is_first (suc zero) lt = refl
@@ -81,9 +69,8 @@ short_is_chosen : (w : Bool) (k imm : ℕ) (a : Operand) → k < 8 → rm_fits p
     (laid_out (short_row k (arithmetic k)).form (parts_for (short_row k (arithmetic k)) w (with_number (arithmetic k) a imm)))
 short_is_chosen w k imm a lt fit short four =
     let i = with_number (arithmetic k) a imm in
-    first_of (is_of (arithmetic k) Long) (with_displacement w) i (needs_same (with_displacement w) i) (take (9 * k) rows)
-    (drop (9 * k + 1) rows) (short_row k (arithmetic k))
-    (short_at k lt) (short_is_first k lt) (short_suits w k imm (arithmetic k) a lt fit short four)
+    first_of (is_of (arithmetic k) Long) (with_displacement w) i (needs_same (with_displacement w) i) (short_row k (arithmetic k))
+    (short_is_first k lt) (short_suits w k imm (arithmetic k) a lt fit short four)
 
 modrm_is : (n m : ℕ) → modrm 3 n m ≡ 0xc0 + 8 * n + m
 modrm_is n m = omega arith
@@ -145,7 +132,7 @@ short_number_at w k imm a lt fit short =
     (laid_by_digit w k imm (arithmetic k) a (memory_reg k (memory_len w a) a (has_sib a) refl lt))
 
 -- the eight have no row of 16 bits
-no_word_row : (k : ℕ) → none_can (is_of (arithmetic k) Word) rows ≡ true
+no_word_row : (k : ℕ) → first_that (is_of (arithmetic k) Word) rows ≡ None
 unfolding rows
 no_word_row zero = refl
 no_word_row (suc zero) = refl
@@ -159,7 +146,7 @@ no_word_row (suc (suc (suc (suc (suc (suc (suc n))))))) = refl
 pub no_words : (wide : Wide) (k : ℕ) (insn : Insn) → insn.op ≡ arithmetic k → insn.size ≡ Word → chosen wide insn ≡ None
 no_words w k i e f =
     none_of (is_of i.op i.size) w i (needs_same w i)
-    (ap (λ (o : Op). none_can (is_of o i.size) rows) e ∙ ap (λ (s : Size). none_can (is_of (arithmetic k) s) rows) f ∙ no_word_row k)
+    (ap (λ (o : Op). first_that (is_of o i.size) rows) e ∙ ap (λ (s : Size). first_that (is_of (arithmetic k) s) rows) f ∙ no_word_row k)
 
 -- ---- two registers
 
@@ -235,6 +222,10 @@ needs_pair o s m n r t =
 abbrev pair_row : Lead → ℕ → Op → Size → Row
 pair_row l code o s = row l code plus.Nothing slash_r immediate.Nothing o s operands.RmReg
 
+-- of the rows with a second operand this one is first
+abbrev IsFirstPair : Lead → ℕ → Op → Size → Type 0
+IsFirstPair l code o s = first_that (is_pair o s) rows ≡ Some (pair_row l code o s)
+
 pair_suits : (l : Lead) (code : ℕ) (o : Op) (s : Size) (m n : ℕ) → repeats l ≡ false → m < 8 → n < 8
     → Suits (pair_row l code o s) plain (with_registers o s m n)
 unfolding parts_for form_fits insn_of
@@ -244,12 +235,12 @@ pair_suits l code o s m n e a b = record {
   widths = refl;
 }
 
-pair_is_chosen : (before after : List Row) (l : Lead) (code : ℕ) (o : Op) (s : Size) (m n : ℕ) → repeats l ≡ false → m < 8 → n < 8
-    → rows ≡ before ++ pair_row l code o s ∷ after → none_can (is_pair o s) before ≡ true
+pair_is_chosen : (l : Lead) (code : ℕ) (o : Op) (s : Size) (m n : ℕ) → repeats l ≡ false → m < 8 → n < 8
+    → IsFirstPair l code o s
     → chosen plain (with_registers o s m n) ≡ Some
     (laid_out (pair_row l code o s).form (parts_for (pair_row l code o s) false (with_registers o s m n)))
-pair_is_chosen before after l code o s m n e a b at first =
-    first_of (is_pair o s) plain (with_registers o s m n) (needs_pair o s m n) before after (pair_row l code o s) at first
+pair_is_chosen l code o s m n e a b first =
+    first_of (is_pair o s) plain (with_registers o s m n) (needs_pair o s m n) (pair_row l code o s) first
     (pair_suits l code o s m n e a b)
 
 laid_pair : (code : ℕ) (o : Op) (s : Size) (m n : ℕ)
@@ -263,26 +254,13 @@ laid_words : (code : ℕ) (o : Op) (m n : ℕ) → Begins (0x66 ∷ code ∷ (0x
 unfolding parts_for
 laid_words code o m n = (ap (λ (x : ℕ). 0x66 ∷ code ∷ x ∷ []) (modrm_is n m), refl)
 
-two_registers : (before after : List Row) (code : ℕ) (o : Op) (s : Size) (m n : ℕ) → m < 8 → n < 8 → rows ≡ before
-    ++ pair_row lead.Nothing code o s ∷ after → none_can (is_pair o s) before ≡ true
+two_registers : (code : ℕ) (o : Op) (s : Size) (m n : ℕ) → m < 8 → n < 8 → IsFirstPair lead.Nothing code o s
     → Begins (code ∷ (0xc0 + 8 * n + m) ∷ []) 2 (chosen plain (with_registers o s m n))
-two_registers before after code o s m n a b at first =
-    subst (Begins (code ∷ (0xc0 + 8 * n + m) ∷ []) 2) (sym (pair_is_chosen before after lead.Nothing code o s m n refl a b at first))
+two_registers code o s m n a b first =
+    subst (Begins (code ∷ (0xc0 + 8 * n + m) ∷ []) 2) (sym (pair_is_chosen lead.Nothing code o s m n refl a b first))
     (laid_pair code o s m n)
 
-byte_at : (k : ℕ) → k < 8 → rows ≡ take (9 * k + 5) rows ++ pair_row lead.Nothing (8 * k) (arithmetic k) Byte ∷ drop (9 * k + 6) rows
-unfolding rows
-byte_at zero lt = refl
-byte_at (suc zero) lt = refl
-byte_at (suc (suc zero)) lt = refl
-byte_at (suc (suc (suc zero))) lt = refl
-byte_at (suc (suc (suc (suc zero)))) lt = refl
-byte_at (suc (suc (suc (suc (suc zero))))) lt = refl
-byte_at (suc (suc (suc (suc (suc (suc zero)))))) lt = refl
-byte_at (suc (suc (suc (suc (suc (suc (suc zero))))))) lt = refl
-byte_at (suc (suc (suc (suc (suc (suc (suc (suc n)))))))) lt = absurd (omega arith)
-
-byte_is_first : (k : ℕ) → k < 8 → none_can (is_pair (arithmetic k) Byte) (take (9 * k + 5) rows) ≡ true
+byte_is_first : (k : ℕ) → k < 8 → IsFirstPair lead.Nothing (8 * k) (arithmetic k) Byte
 unfolding rows
 byte_is_first zero lt = refl
 byte_is_first (suc zero) lt = refl
@@ -294,19 +272,7 @@ byte_is_first (suc (suc (suc (suc (suc (suc zero)))))) lt = refl
 byte_is_first (suc (suc (suc (suc (suc (suc (suc zero))))))) lt = refl
 byte_is_first (suc (suc (suc (suc (suc (suc (suc (suc n)))))))) lt = absurd (omega arith)
 
-long_at : (k : ℕ) → k < 8 → rows ≡ take (9 * k + 6) rows ++ pair_row lead.Nothing (8 * k + 1) (arithmetic k) Long ∷ drop (9 * k + 7) rows
-unfolding rows
-long_at zero lt = refl
-long_at (suc zero) lt = refl
-long_at (suc (suc zero)) lt = refl
-long_at (suc (suc (suc zero))) lt = refl
-long_at (suc (suc (suc (suc zero)))) lt = refl
-long_at (suc (suc (suc (suc (suc zero))))) lt = refl
-long_at (suc (suc (suc (suc (suc (suc zero)))))) lt = refl
-long_at (suc (suc (suc (suc (suc (suc (suc zero))))))) lt = refl
-long_at (suc (suc (suc (suc (suc (suc (suc (suc n)))))))) lt = absurd (omega arith)
-
-long_is_first : (k : ℕ) → k < 8 → none_can (is_pair (arithmetic k) Long) (take (9 * k + 6) rows) ≡ true
+long_is_first : (k : ℕ) → k < 8 → IsFirstPair lead.Nothing (8 * k + 1) (arithmetic k) Long
 unfolding rows
 long_is_first zero lt = refl
 long_is_first (suc zero) lt = refl
@@ -320,27 +286,25 @@ long_is_first (suc (suc (suc (suc (suc (suc (suc (suc n)))))))) lt = absurd (ome
 
 pub rm_is_destination : (k m n : ℕ) → k < 8 → m < 8 → n < 8 → Begins ((8 * k + 1) ∷ (0xc0 + 8 * n + m) ∷ []) 2
     (chosen plain (with_registers (arithmetic k) Long m n))
-rm_is_destination k m n lt a b = two_registers (take (9 * k + 6) rows) (drop (9 * k + 7) rows) (8 * k + 1) (arithmetic k) Long m n a b
-    (long_at k lt) (long_is_first k lt)
+rm_is_destination k m n lt a b = two_registers (8 * k + 1) (arithmetic k) Long m n a b (long_is_first k lt)
 
 pub rm_is_byte_destination : (k m n : ℕ) → k < 8 → m < 8 → n < 8
     → Begins ((8 * k) ∷ (0xc0 + 8 * n + m) ∷ []) 2 (chosen plain (with_registers (arithmetic k) Byte m n))
-rm_is_byte_destination k m n lt a b =
-    two_registers (take (9 * k + 5) rows) (drop (9 * k + 6) rows) (8 * k) (arithmetic k) Byte m n a b (byte_at k lt) (byte_is_first k lt)
+rm_is_byte_destination k m n lt a b = two_registers (8 * k) (arithmetic k) Byte m n a b (byte_is_first k lt)
 
 pub moved_bytes_to_rm : (m n : ℕ) → m < 8 → n < 8 → Begins (0x88 ∷ (0xc0 + 8 * n + m) ∷ []) 2 (chosen plain (with_registers Mov Byte m n))
 unfolding rows
-moved_bytes_to_rm m n a b = two_registers (take 137 rows) (drop 138 rows) 0x88 Mov Byte m n a b refl refl
+moved_bytes_to_rm m n a b = two_registers 0x88 Mov Byte m n a b refl
 
 pub moved_to_rm : (m n : ℕ) → m < 8 → n < 8 → Begins (0x89 ∷ (0xc0 + 8 * n + m) ∷ []) 2 (chosen plain (with_registers Mov Long m n))
 unfolding rows
-moved_to_rm m n a b = two_registers (take 138 rows) (drop 139 rows) 0x89 Mov Long m n a b refl refl
+moved_to_rm m n a b = two_registers 0x89 Mov Long m n a b refl
 
 pub moved_words_to_rm : (m n : ℕ) → m < 8 → n < 8 → Begins (0x66 ∷ 0x89 ∷ (0xc0 + 8 * n + m) ∷ []) 3
     (chosen plain (with_registers Mov Word m n))
 unfolding rows
 moved_words_to_rm m n a b =
     subst (Begins (0x66 ∷ 0x89 ∷ (0xc0 + 8 * n + m) ∷ []) 3)
-    (sym (pair_is_chosen (take 145 rows) (drop 146 rows) lead.Word 0x89 Mov Word m n refl a b refl refl)) (laid_words 0x89 Mov m n)
+    (sym (pair_is_chosen lead.Word 0x89 Mov Word m n refl a b refl)) (laid_words 0x89 Mov m n)
 
 pub ruleset into_rm = (rm_is_destination, rm_is_byte_destination, moved_to_rm, moved_bytes_to_rm, moved_words_to_rm)

@@ -1,5 +1,5 @@
 -- Short forms and branches, by the table: each is the first row of its instruction.
-use Rattle.std.proofs.Common.{◌≡◌, ℕ, ◌/◌, ◌+◌, ◌*◌, ◌%◌, ◌<◌, Bool, true, false, [], ◌∷◌, ◌++◌, Some, take, drop, refl, sym, ap, subst, ◌∙◌, arith}
+use Rattle.std.proofs.Common.{◌≡◌, ℕ, ◌/◌, ◌+◌, ◌*◌, ◌%◌, ◌<◌, Bool, true, false, [], ◌∷◌, Some, refl, sym, ap, subst, ◌∙◌, arith}
 use Rattle.std.specs.Prelude.{◌==◌, ◌&&◌, ◌||◌, not, nat_le}
 use Rattle.std.specs.Cmp.Derive.{both_true}
 use Rattle.std.proofs.lemmas.Bool.Decides.{nat_tests}
@@ -21,46 +21,45 @@ use Rattle.ia32_encode.specs.Good.{Suits}
 use Rattle.ia32_encode.specs.Parts.{parts_for, form_fits}
 use Rattle.ia32_encode.specs.Text.{laid_out}
 use Rattle.ia32_encode.specs.Short.{with_operand, by_distance, plain, with_wide, bare, Begins}
-use Rattle.ia32_encode.proofs.FirstRow.{none_can, first_of, is_of, needs_same, code_itself}
+use Rattle.ia32_encode.proofs.FirstRow.{first_that, first_of, is_of, needs_same, code_itself}
 
--- the row at this place is the first of its instruction
-record IsFirst (place : ℕ) (r : Row) : Type 0 where
-  at : rows ≡ take place rows ++ r ∷ drop (place + 1) rows
-  first : none_can (is_of r.op r.size) (take place rows) ≡ true
+-- the row is the first of its instruction and size
+abbrev IsFirst : Row → Type 0
+IsFirst r = first_that (is_of r.op r.size) rows ≡ Some r
 
-chosen_by : (place : ℕ) (r : Row) (w : Wide) (i : Insn) → IsFirst place r → r.op ≡ i.op → r.size ≡ i.size → Suits r w i
+chosen_by : (r : Row) (w : Wide) (i : Insn) → IsFirst r → r.op ≡ i.op → r.size ≡ i.size → Suits r w i
     → chosen w i ≡ Some (laid_out r.form (parts_for r w.disp i))
-chosen_by place r w i f o s suits =
-    first_of (is_of i.op i.size) w i (needs_same w i) (take place rows) (drop (place + 1) rows) r f.at
-    (ap (λ (t : Op). none_can (is_of t i.size) (take place rows)) (sym o)
-    ∙ (ap (λ (t : _). none_can (is_of r.op t) (take place rows)) (sym s) ∙ f.first)) suits
+chosen_by r w i first o s suits =
+    first_of (is_of i.op i.size) w i (needs_same w i) r
+    (ap (λ (t : Op). first_that (is_of t i.size) rows) (sym o)
+    ∙ (ap (λ (t : _). first_that (is_of r.op t) rows) (sym s) ∙ first)) suits
 
 -- ---- RET
 
 return_row : Row
 return_row = row lead.Nothing 0xc3 plus.Nothing no_modrm immediate.Nothing Return Long operands.Nothing
 
-return_first : IsFirst 224 return_row
+return_first : IsFirst return_row
 unfolding rows return_row
-return_first = record { at = refl; first = refl }
+return_first = refl
 
 pub ret_is_one_byte : chosen plain (with_operand Return Absent) ≡ Some (bare (0xc3 ∷ []))
 unfolding return_row parts_for form_fits insn_of
 ret_is_one_byte =
-    chosen_by 224 return_row plain (with_operand Return Absent) return_first refl refl (record { means = refl; fits = refl; widths = refl })
+    chosen_by return_row plain (with_operand Return Absent) return_first refl refl (record { means = refl; fits = refl; widths = refl })
 
 -- ---- PUSH and POP of a register
 
 abbrev opcode_row : ℕ → Op → Row
 opcode_row n o = row lead.Nothing n plus.Register no_modrm immediate.Nothing o Long operands.Opcode
 
-push_first : IsFirst 157 (opcode_row 0x50 Push)
+push_first : IsFirst (opcode_row 0x50 Push)
 unfolding rows
-push_first = record { at = refl; first = refl }
+push_first = refl
 
-pop_first : IsFirst 161 (opcode_row 0x58 Pop)
+pop_first : IsFirst (opcode_row 0x58 Pop)
 unfolding rows
-pop_first = record { at = refl; first = refl }
+pop_first = refl
 
 -- the opcode names the register: its three low bits
 in_opcode : (k n : ℕ) → n < 8 → (k * 8 / 8 * 8 + n % 8) % 8 ≡ n
@@ -86,30 +85,30 @@ opcode_laid : (k n : ℕ) (o : Op) → n < 8
 unfolding parts_for
 opcode_laid k n o lt = ap (λ (m : ℕ). bare (m ∷ [])) (opcode_is k n lt)
 
-by_opcode : (place k n : ℕ) (o : Op) → IsFirst place (opcode_row (k * 8) o) → n < 8 → chosen plain (with_operand o (Register n)) ≡ Some
+by_opcode : (k n : ℕ) (o : Op) → IsFirst (opcode_row (k * 8) o) → n < 8 → chosen plain (with_operand o (Register n)) ≡ Some
     (bare ((k * 8 + n) ∷ []))
-by_opcode place k n o f lt =
-    chosen_by place (opcode_row (k * 8) o) plain (with_operand o (Register n)) f refl refl (opcode_suits k n o lt)
+by_opcode k n o f lt =
+    chosen_by (opcode_row (k * 8) o) plain (with_operand o (Register n)) f refl refl (opcode_suits k n o lt)
     ∙ ap (λ (a : _). Some a) (opcode_laid k n o lt)
 
 pub push_is_one_byte : (n : ℕ) → n < 8 → chosen plain (with_operand Push (Register n)) ≡ Some (bare ((0x50 + n) ∷ []))
-push_is_one_byte n lt = by_opcode 157 10 n Push push_first lt
+push_is_one_byte n lt = by_opcode 10 n Push push_first lt
 
 pub pop_is_one_byte : (n : ℕ) → n < 8 → chosen plain (with_operand Pop (Register n)) ≡ Some (bare ((0x58 + n) ∷ []))
-pop_is_one_byte n lt = by_opcode 161 11 n Pop pop_first lt
+pop_is_one_byte n lt = by_opcode 11 n Pop pop_first lt
 
 -- ---- branches
 
 abbrev branch_row : ℕ → Op → Row
 branch_row n o = row lead.Nothing n plus.Nothing no_modrm immediate.Long o Long operands.Nothing
 
-jmp_first : IsFirst 172 (branch_row 0xe9 Jmp)
+jmp_first : IsFirst (branch_row 0xe9 Jmp)
 unfolding rows
-jmp_first = record { at = refl; first = refl }
+jmp_first = refl
 
-call_first : IsFirst 174 (branch_row 0xe8 Call)
+call_first : IsFirst (branch_row 0xe8 Call)
 unfolding rows
-call_first = record { at = refl; first = refl }
+call_first = refl
 
 four_bytes : (w : Bool) → (true && (not w || 4 == 4)) ≡ true
 four_bytes true = refl
@@ -128,24 +127,24 @@ branch_laid : (w : Bool) (n : ℕ) (o : Op) (d : ℕ)
 unfolding parts_for
 branch_laid w n o d = (refl, refl)
 
-by_branch : (place n : ℕ) (o : Op) (w : Bool) (d : ℕ) → IsFirst place (branch_row n o)
+by_branch : (n : ℕ) (o : Op) (w : Bool) (d : ℕ) → IsFirst (branch_row n o)
     → Begins (n ∷ []) 5 (chosen (with_wide w) (by_distance o 0 d))
-by_branch place n o w d f =
-    subst (Begins (n ∷ []) 5) (sym (chosen_by place (branch_row n o) (with_wide w) (by_distance o 0 d) f refl refl (branch_suits w n o d)))
+by_branch n o w d f =
+    subst (Begins (n ∷ []) 5) (sym (chosen_by (branch_row n o) (with_wide w) (by_distance o 0 d) f refl refl (branch_suits w n o d)))
     (branch_laid w n o d)
 
 pub jmp_by_four_bytes : (w : Bool) (distance : ℕ) → Begins (0xe9 ∷ []) 5 (chosen (with_wide w) (by_distance Jmp 0 distance))
-jmp_by_four_bytes w d = by_branch 172 0xe9 Jmp w d jmp_first
+jmp_by_four_bytes w d = by_branch 0xe9 Jmp w d jmp_first
 
 pub call_by_four_bytes : (w : Bool) (distance : ℕ) → Begins (0xe8 ∷ []) 5 (chosen (with_wide w) (by_distance Call 0 distance))
-call_by_four_bytes w d = by_branch 174 0xe8 Call w d call_first
+call_by_four_bytes w d = by_branch 0xe8 Call w d call_first
 
 abbrev conditional : Row
 conditional = row lead.Escape 0x80 plus.Condition no_modrm immediate.Long Jcc Long operands.Nothing
 
-jcc_first : IsFirst 169 conditional
+jcc_first : IsFirst conditional
 unfolding rows
-jcc_first = record { at = refl; first = refl }
+jcc_first = refl
 
 -- the opcode names the condition: its four low bits
 condition_in_opcode : (n : ℕ) → n < 16 → (0x80 / 16 * 16 + n % 16) % 16 ≡ n
@@ -171,7 +170,7 @@ pub jcc_by_four_bytes : (w : Bool) (condition distance : ℕ) → condition < 16
     → Begins (0x0f ∷ (0x80 + condition) ∷ []) 6 (chosen (with_wide w) (by_distance Jcc condition distance))
 jcc_by_four_bytes w n d lt =
     subst (Begins (0x0f ∷ (0x80 + n) ∷ []) 6)
-    (sym (chosen_by 169 conditional (with_wide w) (by_distance Jcc n d) jcc_first refl refl (conditional_suits w n d lt)))
+    (sym (chosen_by conditional (with_wide w) (by_distance Jcc n d) jcc_first refl refl (conditional_suits w n d lt)))
     (conditional_laid n d lt)
 
 pub ruleset long_branches = (jmp_by_four_bytes, call_by_four_bytes, jcc_by_four_bytes)
