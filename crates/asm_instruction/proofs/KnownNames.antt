@@ -1,12 +1,12 @@
 -- The names of instructions: what is found for a name is what the tables say that it means.
-use Rattle.std.proofs.Common.{◌≡◌, ℕ, ◌+◌, ◌-◌, ◌++◌, Bool, true, false, List, [], ◌∷◌, Option, Some, None, length, refl, sym, ap, subst, ◌∙◌, arith}
-use Rattle.std.specs.Prelude.{codes, ◌==◌, ◌&&◌, All, take, slice_index, if◌then◌else◌}
+use Rattle.std.proofs.Common.{◌≡◌, ℕ, ◌+◌, ◌-◌, ◌++◌, Bool, true, false, List, [], ◌∷◌, Option, Some, None, length, get_or, refl, sym, ap, subst, ◌∙◌, arith}
+use Rattle.std.specs.Prelude.{codes, ◌==◌, ◌&&◌, map, take, slice_index, if◌then◌else◌}
 use Rattle.std.specs.Option.{option_or}
 use Rattle.std.specs.List.{Contains}
 use Rattle.std.specs.Str.{bytes_eq}
 use Rattle.std.proofs.lemmas.Bool.{eqb-true, and_parts}
-use Rattle.std.proofs.lemmas.List.{take_more, take_all}
-use Rattle.std.proofs.lemmas.List.Elements.{All-nil, All-cons, All-contains, Contains-append_right}
+use Rattle.std.proofs.lemmas.List.{take_more, take_all, get_or-map}
+use Rattle.std.proofs.lemmas.List.Elements.{Contains-append_right}
 use Rattle.std.proofs.lemmas.Slice.Eq.{bytes_eq-Decides}
 use Rattle.ia32_types.specs.declared.site.Refused.{Refused}
 use Rattle.ia32_types.specs.declared.size.Size.{Size}
@@ -55,16 +55,11 @@ found_listed (e ∷ table) name =
     (weaken (Lists table name) (Lists (e ∷ table) name) (found table name) (λ a c. Contains-append_right (e ∷ []) table (name, a) c)
     (found_listed table name))
 
-abbrev Each : {A : Type 0} → (A → Type 0) → List A → Type 0
-Each P [] = Unit {0}
-Each P (x ∷ xs) = P x × Each P xs
-
-each_is : {A : Type 0} (P : A → Type 0) (xs : List A) → Each P xs → All P xs
-each_is P [] h = All-nil P
-each_is P (x ∷ xs) h = All-cons P x xs h.0 (each_is P xs h.1)
-
-each_at : {A : Type 0} (P : A → Type 0) (xs : List A) (x : A) → Each P xs → Contains xs x → P x
-each_at P xs x h c = All-contains P xs x (each_is P xs h) c
+-- two functions that agree over a table agree for each of its entries
+agree : {A B : Type 0} (f g : A → B) (xs : List A) → map f xs ≡ map g xs → (x : A) → Contains xs x → f x ≡ g x
+agree f g xs e x c =
+    let at = sym (get_or-map f xs c.0 x (f x) c.1) ∙ ap (λ (ys : List _). get_or ys c.0 (f x)) e ∙ get_or-map g xs c.0 x (f x) c.1 in
+    subst (λ y. f y ≡ g y) c.2 at
 
 -- ---- what is found has the name
 
@@ -153,80 +148,86 @@ known_named name m e = subst (When (IsName name)) e (known_when name)
 
 -- ---- each name is found
 
-abbrev Known : List ℕ → Option Size → Family → Type 0
-Known name s f = known_name name ≡ Some (record { family = f; suffix = s })
+abbrev of_family : Option Size → Family → Mnemonic
+of_family s f = record { family = f; suffix = s }
 
-exact_known : Each (λ (e : List ℕ × Family). Known e.0 None e.1) exact_names
+-- each name of the table, spelled with what stands before or after it, is known by what the table has for it
+abbrev AreKnown : {A : Type 0} → Table A → (List ℕ → List ℕ) → (A → Mnemonic) → Type 0
+AreKnown {A} table spelled meaning =
+    map (λ (e : List ℕ × A). known_name (spelled e.0)) table ≡ map (λ (e : List ℕ × A). Some (meaning e.1)) table
+
+entry_known : {A : Type 0} (table : Table A) (spelled : List ℕ → List ℕ) (meaning : A → Mnemonic) → AreKnown table spelled meaning
+    → (name : List ℕ) (a : A) → Lists table name a → known_name (spelled name) ≡ Some (meaning a)
+entry_known {A} table spelled meaning known name a c =
+    agree (λ (e : List ℕ × A). known_name (spelled e.0)) (λ (e : List ℕ × A). Some (meaning e.1)) table known (name, a) c
+
+exact_known : AreKnown exact_names (λ n. n) (of_family None)
 unfolding known_name conditional_name exact_names sized_names conditions with_suffix suffixed plain_names frame_names extend_names
     string_names page_names control_names arithmetic_names shift_names move_names stack_names branch_names system_names
-exact_known = (refl, (refl, (refl, (refl, (refl, (refl, (refl, (refl, (refl, (refl, (refl, (refl, (refl, (refl, (refl, (refl, (refl, (refl, (refl, (refl, (refl, (refl, (refl, (refl, (refl, (refl, (refl, (refl, (refl, (refl, (refl, (refl, (refl, (refl, tt))))))))))))))))))))))))))))))))))
+exact_known = refl
 
-jumps_known : Each (λ (e : List ℕ × ℕ). Known (codes "j" ++ e.0) None (family.Control (control.Conditional e.1))) conditions
+jumps_known : AreKnown conditions (λ n. codes "j" ++ n) (λ c. of_family None (family.Control (control.Conditional c)))
 unfolding known_name conditional_name exact_names sized_names conditions with_suffix suffixed plain_names frame_names extend_names
     string_names page_names control_names arithmetic_names shift_names move_names stack_names branch_names system_names
-jumps_known = (refl, (refl, (refl, (refl, (refl, (refl, (refl, (refl, (refl, (refl, (refl, (refl, (refl, (refl, (refl, (refl, (refl, (refl, (refl, (refl, (refl, (refl, (refl, (refl, (refl, (refl, (refl, (refl, (refl, (refl, tt))))))))))))))))))))))))))))))
+jumps_known = refl
 
-sets_known : Each (λ (e : List ℕ × ℕ). Known (codes "set" ++ e.0) None (family.Control (control.Set e.1))) conditions
+sets_known : AreKnown conditions (λ n. codes "set" ++ n) (λ c. of_family None (family.Control (control.Set c)))
 unfolding known_name conditional_name exact_names sized_names conditions with_suffix suffixed plain_names frame_names extend_names
     string_names page_names control_names arithmetic_names shift_names move_names stack_names branch_names system_names
-sets_known = (refl, (refl, (refl, (refl, (refl, (refl, (refl, (refl, (refl, (refl, (refl, (refl, (refl, (refl, (refl, (refl, (refl, (refl, (refl, (refl, (refl, (refl, (refl, (refl, (refl, (refl, (refl, (refl, (refl, (refl, tt))))))))))))))))))))))))))))))
+sets_known = refl
 
-sized_known : Each (λ (e : List ℕ × Family). Known e.0 None e.1) sized_names
+sized_known : AreKnown sized_names (λ n. n) (of_family None)
 unfolding known_name conditional_name exact_names sized_names conditions with_suffix suffixed plain_names frame_names extend_names
     string_names page_names control_names arithmetic_names shift_names move_names stack_names branch_names system_names
-sized_known = (refl, (refl, (refl, (refl, (refl, (refl, (refl, (refl, (refl, (refl, (refl, (refl, (refl, (refl, (refl, (refl, (refl, (refl, (refl, (refl, (refl, (refl, (refl, (refl, (refl, (refl, (refl, (refl, (refl, (refl, (refl, (refl, (refl, (refl, (refl, (refl, (refl, tt)))))))))))))))))))))))))))))))))))))
+sized_known = refl
 
-bytes_known : Each (λ (e : List ℕ × Family). Known (e.0 ++ codes "b") (Some size.Byte) e.1) sized_names
-unfolding known_name conditional_name exact_names sized_names conditions with_suffix suffixed plain_names frame_names extend_names
+-- the names with a suffix, and what they mean
+abbrev known_with : List ℕ × Size → List (Option Mnemonic)
+known_with s = map (λ (e : List ℕ × Family). known_name (e.0 ++ s.0)) sized_names
+
+abbrev meant_with : List ℕ × Size → List (Option Mnemonic)
+meant_with s = map (λ (e : List ℕ × Family). Some (of_family (Some s.1) e.1)) sized_names
+
+suffixed_known : map known_with suffixes ≡ map meant_with suffixes
+unfolding suffixes known_name conditional_name exact_names sized_names conditions with_suffix suffixed plain_names frame_names extend_names
     string_names page_names control_names arithmetic_names shift_names move_names stack_names branch_names system_names
-bytes_known = (refl, (refl, (refl, (refl, (refl, (refl, (refl, (refl, (refl, (refl, (refl, (refl, (refl, (refl, (refl, (refl, (refl, (refl, (refl, (refl, (refl, (refl, (refl, (refl, (refl, (refl, (refl, (refl, (refl, (refl, (refl, (refl, (refl, (refl, (refl, (refl, (refl, tt)))))))))))))))))))))))))))))))))))))
-
-words_known : Each (λ (e : List ℕ × Family). Known (e.0 ++ codes "w") (Some size.Word) e.1) sized_names
-unfolding known_name conditional_name exact_names sized_names conditions with_suffix suffixed plain_names frame_names extend_names
-    string_names page_names control_names arithmetic_names shift_names move_names stack_names branch_names system_names
-words_known = (refl, (refl, (refl, (refl, (refl, (refl, (refl, (refl, (refl, (refl, (refl, (refl, (refl, (refl, (refl, (refl, (refl, (refl, (refl, (refl, (refl, (refl, (refl, (refl, (refl, (refl, (refl, (refl, (refl, (refl, (refl, (refl, (refl, (refl, (refl, (refl, (refl, tt)))))))))))))))))))))))))))))))))))))
-
-longs_known : Each (λ (e : List ℕ × Family). Known (e.0 ++ codes "l") (Some size.Long) e.1) sized_names
-unfolding known_name conditional_name exact_names sized_names conditions with_suffix suffixed plain_names frame_names extend_names
-    string_names page_names control_names arithmetic_names shift_names move_names stack_names branch_names system_names
-longs_known = (refl, (refl, (refl, (refl, (refl, (refl, (refl, (refl, (refl, (refl, (refl, (refl, (refl, (refl, (refl, (refl, (refl, (refl, (refl, (refl, (refl, (refl, (refl, (refl, (refl, (refl, (refl, (refl, (refl, (refl, (refl, (refl, (refl, (refl, (refl, (refl, (refl, tt)))))))))))))))))))))))))))))))))))))
-
-abbrev AllKnown : List ℕ × Size → Type 0
-AllKnown s = All (λ (e : List ℕ × Family). Known (e.0 ++ s.0) (Some s.1) e.1) sized_names
-
-suffixed_known : Each AllKnown suffixes
-unfolding suffixes
-suffixed_known = (each_is _ sized_names bytes_known, (each_is _ sized_names words_known, (each_is _ sized_names longs_known, tt)))
+suffixed_known = refl
 
 pub named_known : (name : List ℕ) (m : Mnemonic) → IsName name m → known_name name ≡ Some m
-named_known name m (IsName.exact {f} c) = each_at (λ (e : List ℕ × Family). Known e.0 None e.1) exact_names (name, f) exact_known c
+named_known name m (IsName.exact {f} c) = entry_known exact_names (λ n. n) (of_family None) exact_known name f c
 named_known name m (IsName.jump {c} test e h) = ap known_name e
-    ∙ each_at (λ (x : List ℕ × ℕ). Known (codes "j" ++ x.0) None (family.Control (control.Conditional x.1))) conditions
-    (test, c) jumps_known h
+    ∙ entry_known conditions (λ n. codes "j" ++ n) (λ c. of_family None (family.Control (control.Conditional c))) jumps_known test c h
 named_known name m (IsName.set {c} test e h) = ap known_name e
-    ∙ each_at (λ (x : List ℕ × ℕ). Known (codes "set" ++ x.0) None (family.Control (control.Set x.1))) conditions (test, c) sets_known h
-named_known name m (IsName.sized {f} c) = each_at (λ (e : List ℕ × Family). Known e.0 None e.1) sized_names (name, f) sized_known c
-named_known name m (IsName.suffixed {f} {s} front letter e c d) =
-    ap known_name e ∙ All-contains (λ (x : List ℕ × Family). Known (x.0 ++ letter) (Some s) x.1) sized_names (front, f)
-    (each_at AllKnown suffixes (letter, s) suffixed_known d) c
+    ∙ entry_known conditions (λ n. codes "set" ++ n) (λ c. of_family None (family.Control (control.Set c))) sets_known test c h
+named_known name m (IsName.sized {f} c) = entry_known sized_names (λ n. n) (of_family None) sized_known name f c
+named_known name m (IsName.suffixed {f} {s} front letter e c d) = ap known_name e
+    ∙ entry_known sized_names (λ n. n ++ letter) (of_family (Some s)) (agree known_with meant_with suffixes suffixed_known (letter, s) d)
+    front f c
 
 -- ---- the names that are refused
 
-refused_are_found : Each (λ (e : List ℕ × Refused). found refused_names e.0 ≡ Some e.1) refused_names
-unfolding refused_names
-refused_are_found = (refl, (refl, (refl, (refl, (refl, (refl, (refl, (refl, (refl, (refl, (refl, (refl, (refl, (refl, (refl, (refl, tt))))))))))))))))
+abbrev named : List ℕ × Refused → Option Refused
+named e = Some e.1
 
-refused_are_unknown : Each (λ (e : List ℕ × Refused). known_name e.0 ≡ None) refused_names
+abbrev no_name : List ℕ × Refused → Option Mnemonic
+no_name e = None
+
+refused_are_found : map (λ (e : List ℕ × Refused). found refused_names e.0) refused_names ≡ map named refused_names
+unfolding refused_names
+refused_are_found = refl
+
+refused_are_unknown : map (λ (e : List ℕ × Refused). known_name e.0) refused_names ≡ map no_name refused_names
 unfolding refused_names known_name conditional_name exact_names sized_names conditions with_suffix suffixed plain_names frame_names
     extend_names string_names page_names control_names arithmetic_names shift_names move_names stack_names branch_names system_names
-refused_are_unknown = (refl, (refl, (refl, (refl, (refl, (refl, (refl, (refl, (refl, (refl, (refl, (refl, (refl, (refl, (refl, (refl, tt))))))))))))))))
+refused_are_unknown = refl
 
 pub refused_found : (name : List ℕ) (h : IsRefused name) → found refused_names name ≡ Some h.0
 refused_found name h =
-    each_at (λ (e : List ℕ × Refused). found refused_names e.0 ≡ Some e.1) refused_names (name, h.0) refused_are_found h.1
+    agree (λ (e : List ℕ × Refused). found refused_names e.0) named refused_names refused_are_found (name, h.0) h.1
 
 pub refused_unknown : (name : List ℕ) → IsRefused name → known_name name ≡ None
-refused_unknown name h = each_at (λ (e : List ℕ × Refused). known_name e.0 ≡ None) refused_names (name, h.0) refused_are_unknown h.1
+refused_unknown name h =
+    agree (λ (e : List ℕ × Refused). known_name e.0) no_name refused_names refused_are_unknown (name, h.0) h.1
 
 pub found_refused : (name : List ℕ) (r : Refused) → found refused_names name ≡ Some r → IsRefused name
 found_refused name r e = (r, subst (When (Lists refused_names name)) e (found_listed refused_names name))
