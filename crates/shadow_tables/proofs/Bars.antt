@@ -325,6 +325,65 @@ page-still s m page frame h l a b =
     ∙ barred-by page frame (at m s.kernel page) (at m s.user page) (h.marks s.kernel page (in-kernel s) l)
     (h.marks s.user page (in-user s) l)
 
+-- ---- words that give a right
+
+-- the word of this frame that gives the right to write is another one without it
+pub barred-differs : (frame w : ℕ) → w / 4096 ≡ frame → w / 2 % 2 ≡ 1 → barred_word frame w ≢ w
+barred-differs frame w e h = λ q. absurd (let y : w - 2 ≡ w = sym (barred-yes frame w e h) ∙ q in omega (arith, y, h))
+
+-- and a word that is another one without its right is of this frame, and has it
+right-of : (frame w : ℕ) → barred_word frame w ≢ w → (w / 4096 ≡ frame) × (w / 2 % 2 ≡ 1)
+right-of frame w n = elim (loses frame w) [ inl t ↦ (t.0, t.1) | inr t ↦ absurd (n t.1) ]
+
+loses-right : (frame w : ℕ) → w / 4096 ≡ frame → w / 2 % 2 ≡ 1 → has w 2 ≢ (has w 2 && not (eqb (w / 4096) frame || false))
+loses-right frame w e h = λ q.
+    let x : has w 2 ≡ has (w - 2) 2 = q ∙ sym (less-writes frame w e h) in
+    elim (eqb_tells (w / 2 % 2) 1) [
+      | inl v ↦ elim (eqb_tells ((w - 2) / 2 % 2) 1) [
+        | inl t ↦ absurd (let y = t.1 in omega (arith, y, h))
+        | inr t ↦ absurd (let y : true ≡ false = sym v.0 ∙ x ∙ t.0 in cc)
+      ]
+      | inr v ↦ absurd (v.1 h)
+    ]
+
+abbrev writes-in : Option Slot → Bool
+writes-in None = false
+writes-in (Some slot) = slot.writes
+
+slot-turns : (side : Side) (page frame w : ℕ) → barred_word frame w ≢ w
+    → Some (slot_of side page w) ≢ barred (frame ∷ []) (Some (slot_of side page w))
+slot-turns side page frame w n = λ q. let r = right-of frame w n in loses-right frame w r.0 r.1 (ap writes-in q)
+
+some-right : (frame w : ℕ) → barred_word frame w ≢ w → w ≢ 0
+some-right frame w n = λ e. n (barred-zero frame w e ∙ sym e)
+
+-- what is kept of a page is another than without its right where either word is
+pub page-turns : (s : Shadow) (m : List ℕ) (page frame : ℕ) → IsShadow s m → page < 2 ^ 20
+    → (barred_word frame (at m s.kernel page) ≢ at m s.kernel page) ⊎ (barred_word frame (at m s.user page) ≢ at m s.user page)
+    → slot_at s m page ≢ without s m frame page
+unfolding slot_at
+page-turns s m page frame h l (inl n) q =
+    let k = by-kernel page (at m s.kernel page) (at m s.user page) (some-right frame (at m s.kernel page) n) in
+    slot-turns Kernel page frame (at m s.kernel page) n (sym k ∙ q ∙ ap (barred (frame ∷ [])) k)
+page-turns s m page frame h l (inr n) q =
+    elim (eqb_tells (at m s.kernel page) 0) [
+      | inl z ↦
+          let u = by-user page (at m s.kernel page) (at m s.user page) z.1 (some-right frame (at m s.user page) n) in
+          slot-turns User page frame (at m s.user page) n (sym u ∙ q ∙ ap (barred (frame ∷ [])) u)
+      | inr z ↦ absurd (some-right frame (at m s.user page) n (h.apart page l z.1))
+    ]
+
+-- the word of a page is another one without its right where that of its table is
+pub word-turns : (m : List ℕ) (r index frame i : ℕ) → i < 1024
+    → barred_word frame (by_dir m (dir m r index) i) ≢ by_dir m (dir m r index) i
+    → barred_word frame (at m r (1024 * index + i)) ≢ at m r (1024 * index + i)
+unfolding at
+word-turns m r index frame i few n =
+    let place : (1024 * index + i) / 1024 ≡ index = omega (arith, few) in
+    let word : (1024 * index + i) % 1024 ≡ i = omega (arith, few) in
+    subst (λ d. barred_word frame (by_dir m (dir m r d) ((1024 * index + i) % 1024)) ≢ by_dir m (dir m r d) ((1024 * index + i) % 1024))
+    (sym place) (subst (λ j. barred_word frame (by_dir m (dir m r index) j) ≢ by_dir m (dir m r index) j) (sym word) n)
+
 -- pages that have no right to lose
 pub bars-over : (s : Shadow) (m n : List ℕ) (first from last frame : ℕ) → first ≤ from → from ≤ last
     → Sweeps s m n first from (without s m frame)

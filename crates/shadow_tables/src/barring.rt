@@ -1,6 +1,6 @@
 //! Taking the right to write from all pages of a frame.
 
-ghost use Rattle.std.specs.Prelude.{◌≡◌, ◌≢◌, ℕ, ◌+◌, ◌*◌, ◌/◌, ◌≤◌, ◌<◌, ◌^◌, List, [], ◌∷◌, false, length};
+ghost use Rattle.std.specs.Prelude.{◌≡◌, ◌≢◌, ℕ, ◌+◌, ◌*◌, ◌/◌, ◌≤◌, ◌<◌, ◌^◌, List, [], ◌∷◌, true, false, length};
 ghost use Rattle.frame_pool.specs.Held.{Holds, Writes};
 ghost use Rattle.shadow_views.specs.Tables.{at, by_dir, owned, IsIn, IsView, Puts};
 ghost use Rattle.shadow_tables.specs.Slots.{barred, barred_word, held, slot_at, IsShadow, Becomes, LosesWrites};
@@ -15,6 +15,7 @@ use shadow_views::{are_none, dir, look, next_pair, set, word_in};
 /// The word gives the right to write to this frame.
 fn gives(word: u32, frame: u32) -> bool
     ensures none { result ≡ false → barred_word frame word ≡ word }
+    ensures some { result ≡ true → barred_word frame word ≢ word }
 {
     word / 4096 == frame && word / 2 % 2 == 1
 }
@@ -26,6 +27,7 @@ fn next_giving(ram: &Ram, table: u32, frame: u32, from: u32) -> u32
     ensures behind { from ≤ result }
     ensures within { result ≤ 1024 }
     ensures none { (i : ℕ) → from ≤ i → i < result → barred_word frame (by_dir ram.now table i) ≡ by_dir ram.now table i }
+    ensures found { result < 1024 → barred_word frame (by_dir ram.now table result) ≢ by_dir ram.now table result }
 {
     if table == 0 {
         return 1024;
@@ -81,6 +83,8 @@ impl Shadow {
         ensures within { result ≤ 1024 }
         ensures none { (page : ℕ) → page < 2 ^ 20 → 1024 * index + from ≤ page → page < 1024 * index + result
             → slot_at self.now ram.now page ≡ barred (frame ∷ []) (slot_at self.now ram.now page) }
+        ensures found { result < 1024
+            → slot_at self.now ram.now (1024 * index + result) ≢ barred (frame ∷ []) (slot_at self.now ram.now (1024 * index + result)) }
     {
         let kernel = dir(ram, self.root(Side::Kernel), index);
         let user = dir(ram, self.root(Side::User), index);

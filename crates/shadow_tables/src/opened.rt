@@ -2,7 +2,7 @@
 
 ghost use Rattle.std.specs.Prelude.{◌≡◌, ◌≢◌, ℕ, ◌+◌, ◌*◌, ◌/◌, ◌≤◌, ◌<◌, ◌^◌, length, None};
 ghost use Rattle.guest_ram.specs.Bytes.{word32};
-ghost use Rattle.shadow_views.specs.Tables.{by_dir};
+ghost use Rattle.shadow_views.specs.Tables.{by_dir, dir};
 ghost use Rattle.shadow_tables.specs.Slots.{slot_at, IsShadow};
 
 use crate::shadow::Shadow;
@@ -19,6 +19,8 @@ fn next_pair_in(ram: &Ram, first: u32, second: u32, from: u32) -> u32
     ensures within { result ≤ 512 }
     ensures first { (i : ℕ) → 2 * from ≤ i → i < 2 * result → word32 ram.now (4096 * first + 4 * i) ≡ 0 }
     ensures second { (i : ℕ) → 2 * from ≤ i → i < 2 * result → word32 ram.now (4096 * second + 4 * i) ≡ 0 }
+    ensures found { result < 512 → ((k : ℕ) → k < 2
+        → (word32 ram.now (4096 * first + 8 * result + 4 * k) ≡ 0) × (word32 ram.now (4096 * second + 8 * result + 4 * k) ≡ 0)) → ⊥ }
 {
     let _bytes = ram.len();
     for pair in from..512 {
@@ -68,13 +70,16 @@ impl Shadow {
         next_word(ram, kernel, user, from)
     }
 
-    /// A directory index, this one or a later one, before which neither view has another table; 1,024 where there is none.
+    /// A directory index, this one or a later one, before which neither view has another table; 1,024 where there is none. It,
+    /// or its neighbour in their pair of PDEs, has one.
     pub fn next_opened(&self, ram: &Ram, from: u32) -> u32
         requires shadow { IsShadow self.now ram.now }
         requires from { from ≤ 1024 }
         ensures behind { from ≤ result }
         ensures within { result ≤ 1024 }
         ensures none { (page : ℕ) → page < 2 ^ 20 → 1024 * from ≤ page → page < 1024 * result → slot_at self.now ram.now page ≡ None }
+        ensures found { result < 1024 → ((d : ℕ) → d / 2 ≡ result / 2
+            → (dir ram.now self.now.kernel d ≡ 0) × (dir ram.now self.now.user d ≡ 0)) → ⊥ }
     {
         let kernel = self.root(Side::Kernel);
         let user = self.root(Side::User);

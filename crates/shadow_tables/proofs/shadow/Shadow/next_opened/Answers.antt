@@ -1,5 +1,6 @@
-use Rattle.std.proofs.Common.{◌*◌, ◌/◌, sym, subst, arith}
-use Rattle.shadow_views.specs.Tables.{IsView}
+use Rattle.std.proofs.Common.{◌≡◌, ◌+◌, ◌*◌, ◌/◌, sym, ap, ◌∙◌, subst, arith}
+use Rattle.guest_ram.specs.Bytes.{word32}
+use Rattle.shadow_views.specs.Tables.{dir, IsView}
 use Rattle.shadow_views.proofs.Changes.{IsView-from_Holds}
 use Rattle.shadow_views.proofs.Nones.{AreNone, NoDirs, none-dirs}
 use Rattle.shadow_tables.specs.Slots.{roots}
@@ -35,3 +36,18 @@ returns-clause-none c = λ page l low high.
     (λ j a b. kernel j (omega (arith, a)) (omega (arith, a, b, most)))
     (λ j a b. user j (omega (arith, a)) (omega (arith, a, b, most)))
     page l low high
+
+pub returns-clause-found : goal.returns-clause-found
+unfolding dir
+returns-clause-found c = λ few none.
+    let s = c.args.self.now in let m = c.args.ram.now in let pair = c.next_pair_in.result in
+    let behind = c.next_pair_in.ensures.behind in
+    let most = c.max.ensures in
+    let kernel = c.root-kernel.ensures in
+    let user = c.root-user.ensures in
+    c.next_pair_in.ensures.found (omega (arith, few, most))
+    (λ k l.
+    let both = none (2 * pair + k) (omega (arith, behind, few, most, l)) in
+    let first : 4096 * c.root-kernel.result + 8 * pair + 4 * k ≡ 4096 * s.kernel + 4 * (2 * pair + k) = omega (arith, kernel) in
+    let second : 4096 * c.root-user.result + 8 * pair + 4 * k ≡ 4096 * s.user + 4 * (2 * pair + k) = omega (arith, user) in
+    (ap (word32 m) first ∙ both.0, ap (word32 m) second ∙ both.1))
