@@ -25,6 +25,7 @@ use Rattle.wedge_step.specs.Carried.{IsCarried, IsTakenFrom, IsCarriedBy}
 use Rattle.wedge_step.specs.CarryLaws.{CarryLaws}
 use Rattle.wedge_step.specs.Parts.{left_of}
 use Rattle.wedge_step.specs.Pools.{Keeps}
+use Rattle.wedge_step.specs.Scene.{AreAmple}
 use Rattle.wedge_step.specs.Standing.{IsHeld, ground, set_of, state_of}
 use Rattle.wedge_step.proofs.Widening.{Widens}
 use Rattle.wedge_step.proofs.AfterTry.{any_script}
@@ -88,7 +89,7 @@ module _ {S : Type 0} (shows : shadows.Ghosts S) where
     -- what one step of the run's own says of what is carried
     abbrev pub Carries : Image → ℕ → Running S → Running S → List ℕ → List ℕ → Pool → Bool → Type 0
     Carries image n old new memory then pool notes_wanted =
-        (script : Events) (steps : List Taken) (t : Taken) → notes_wanted ≡ false → length (free_list pool memory) + old.held ≡ 512
+        (script : Events) (steps : List Taken) (t : Taken) → notes_wanted ≡ false → AreAmple (length (free_list pool memory)) old.held
         → Roomy (steps ++ t ∷ [])
         → IsTakenFrom (wedge image script n) (state_of shows (wedge image script n) old memory) t
         → t.set ≡ left_of new.lost.before (set_of shows old memory)
@@ -102,15 +103,16 @@ module _ {S : Type 0} (shows : shadows.Ghosts S) where
         → given b.board script b.step ≡ old.board → clashes_from (wedge image script n) b ≡ true
 
     -- the frames that are free and those that are held are as many as at first
-    pub whole_then : (m : Setting) (g now : Running S) (p q : Pool) (memory then : List ℕ) → IsHeld shows m g p memory
+    pub ample_then : (m : Setting) (g now : Running S) (p q : Pool) (memory then : List ℕ) → IsHeld shows m g p memory
         → IsHeld shows m now q then
-        → Keeps p q memory then (shows.frames g.shadows memory) (shows.frames now.shadows then) → length (free_list p memory) + g.held ≡ 512
-        → length (free_list q then) + now.held ≡ 512
-    whole_then m g now p q memory then a b k whole =
+        → Keeps p q memory then (shows.frames g.shadows memory) (shows.frames now.shadows then)
+        → AreAmple (length (free_list p memory)) g.held
+        → AreAmple (length (free_list q then)) now.held
+    ample_then m g now p q memory then a b k ample =
         let x = a.counted in
         let y = b.counted in
         let z = k.lengths in
-        omega (arith, x, y, z, whole)
+        omega (arith, x, y, z, ample)
 
     -- a stretch in which nothing was done, and then one step of the run's own
     module _ (image : Image) (script : Events) (f : ℕ) (r mid new : Running S) (memory then after : List ℕ) (pool : Pool) (board : Board)
@@ -124,7 +126,7 @@ module _ {S : Type 0} (shows : shadows.Ghosts S) where
       pub drop_clashes : mid.frames ≡ f → state_of shows m mid then ≡ record now { board = board } → board ≡ given r.board script r.step
           → IsHeld shows (ground image f) r pool memory → IsHeld shows (ground image f) mid pool then → mid.shadows ≡ r.shadows
           → SameIn (shows.frames r.shadows memory) memory then
-          → (begins → length (free_list pool then) + mid.held ≡ 512) → Clashed image mid.frames mid new then pool
+          → (begins → AreAmple (length (free_list pool then)) mid.held) → Clashed image mid.frames mid new then pool
           → DropClashes m now new.lost.before begins (CarriedWith m r.shadows memory)
       drop_clashes same stays events held held_mid shadows apart whole clashed = λ s dropped steps left roomy c.
           let there = carried_there m r.shadows mid.shadows memory then now.set steps (with_set now left) shadows held.stand apart c in
@@ -143,7 +145,7 @@ module _ {S : Type 0} (shows : shadows.Ghosts S) where
       pub step_carries : mid.frames ≡ f → state_of shows m mid then ≡ record now { board = board } → board ≡ given r.board script r.step
           → IsHeld shows (ground image f) r pool memory → IsHeld shows (ground image f) mid pool then → mid.shadows ≡ r.shadows
           → SameIn (shows.frames r.shadows memory) memory then
-          → (begins → notes_wanted ≡ false) → (begins → length (free_list pool then) + mid.held ≡ 512)
+          → (begins → notes_wanted ≡ false) → (begins → AreAmple (length (free_list pool then)) mid.held)
           → Carries image mid.frames mid new then after pool notes_wanted → Clashed image mid.frames mid new then pool
           → StepCarries m now (state_of shows m new after) new.lost begins (CarriedWith m r.shadows memory)
           (CarriedWith m new.shadows after)

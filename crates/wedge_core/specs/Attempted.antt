@@ -12,7 +12,7 @@ use Rattle.machine_model.specs.Taken.{Taken, is_load}
 use Rattle.wedge_step.specs.Carried.{IsCarried, IsCarriedBy, IsTakenFrom}
 use Rattle.wedge_step.specs.Leaves.{CarriesOn, IsCarriedIn, Stays}
 use Rattle.wedge_step.specs.Parts.{left_of}
-use Rattle.wedge_step.specs.Scene.{Scene, free, set_in, state_in}
+use Rattle.wedge_step.specs.Scene.{AreAmple, Scene, free, set_in, state_in}
 use Rattle.wedge_step.specs.Standing.{IsHeld, ground}
 use Rattle.wedge_core.specs.declared.native.Attempt.{Attempt}
 use Rattle.wedge_core.specs.Attempts.{AttemptAs, WhereAsked, WhereStepped}
@@ -44,10 +44,10 @@ module _ {S : Type 0} (g : shadows.Ghosts S) where
         })
     pub stays : OnErr result (Stays old new)
 
-  -- of a step that is taken from here by this set, with a whole pool and no notes wanted
+  -- of a step that is taken from here by this set, with ample frames and no notes wanted
   abbrev pub WhereTaken : Image → Bool → Set → Scene S → Events → List Taken → Taken → Type 0 → Type 0
   WhereTaken image notes_wanted set old script steps t fact =
-      notes_wanted ≡ false → free old + old.guest.held ≡ 512 → Roomy (steps ++ t ∷ [])
+      notes_wanted ≡ false → AreAmple (free old) old.guest.held → Roomy (steps ++ t ∷ [])
       → IsTakenFrom (wedge image script old.guest.frames) (state_in g (wedge image script old.guest.frames) old) t → t.set ≡ set → fact
 
   -- of a step that the host does: it loads no control register, and leaves what is kept as it finds it

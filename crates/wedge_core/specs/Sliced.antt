@@ -14,7 +14,7 @@ use Rattle.run_trace.specs.declared.pause.Pause.{Pause}
 use Rattle.wedge_step.specs.Filled.{CountsFills}
 use Rattle.wedge_step.specs.Leaves.{IsCarriedIn}
 use Rattle.wedge_step.specs.Pools.{Keeps}
-use Rattle.wedge_step.specs.Scene.{Scene, frames_in, free, kept_in, set_in, state_in}
+use Rattle.wedge_step.specs.Scene.{AreAmple, Scene, frames_in, free, kept_in, set_in, state_in}
 use Rattle.wedge_step.specs.Standing.{IsAble, ground}
 use Rattle.wedge_core.specs.Noted.{NotesOn}
 use Rattle.wedge_core.specs.Scenes.{IsHeldIn, IsReadyIn}
@@ -45,13 +45,13 @@ module _ {S : Type 0} (g : shadows.Ghosts S) where
       SliceAs m bound (state_in g m old) (state_in g m new) out
       (record { pages = kept_in g old; fills = old.guest.fills; filled = new.guest.fills }) told begins result
 
-  -- with all known of what is kept, a whole pool, and no notes wanted
+  -- with all known of what is kept, ample frames, and no notes wanted
   abbrev pub BeginsCarried : Image → Events → Scene S → Bool → Type 0
   BeginsCarried image script c notes_wanted =
-      IsCarriedIn g image script [] (state_in g (wedge image script c.guest.frames) c) c × (free c + c.guest.held ≡ 512)
+      IsCarriedIn g image script [] (state_in g (wedge image script c.guest.frames) c) c × AreAmple (free c) c.guest.held
       × (notes_wanted ≡ false)
 
-  -- with nothing kept, two frames held and all others of 512 free, and no notes wanted
+  -- with nothing kept, two frames held and ample ones free, and no notes wanted
   abbrev pub BeginsBare : Scene S → Bool → Type 0
   BeginsBare c notes_wanted = BeginsEmpty (set_in g c) (free c) c.guest.held notes_wanted
 

@@ -13,6 +13,7 @@ use Rattle.machine_model.specs.Run.{Set, Steps, trace_of, with_set}
 use Rattle.machine_model.specs.Taken.{steps_by}
 use Rattle.machine_model.specs.Keeping.{Roomy, Kept, IsLeftBehind}
 use Rattle.wedge_step.specs.Filled.{CountsFills}
+use Rattle.wedge_step.specs.Scene.{AreAmple}
 pub use Rattle.wedge_core.specs.Counts.{Counts, CountsOn, counts_of}
 use Rattle.wedge_core.specs.Noted.{IsNoted}
 use Rattle.run_trace.specs.Pauses.{IfReached, PutsAs}
@@ -66,9 +67,9 @@ pub record SliceAs (m : Setting) (bound : ℕ) (old new : State) (out : Outward)
   pub kept : begins → Kept m old (sets ++ end ∷ [])
   pub left : begins → IfReached result (Roomy (steps_by m old sets) → IsLeftBehind m (steps_by m old sets) last end)
 
--- A slice begins with nothing kept, two frames held and all others of 512 free, and no notes are wanted.
+-- A slice begins with nothing kept, two frames held and ample ones free, and no notes are wanted.
 pub record BeginsEmpty (set : Set) (free held : ℕ) (notes_wanted : Bool) : Type 0 where
   pub empty_set : set ≡ empty
   pub two : held ≡ 2
-  pub others : free + held ≡ 512
+  pub ample : AreAmple free held
   pub silent : notes_wanted ≡ false

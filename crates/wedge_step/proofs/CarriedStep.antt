@@ -33,6 +33,7 @@ use Rattle.kept_laws.specs.OverSteps.{Tells}
 use Rattle.wedge_step.specs.Leaving.{Ends}
 use Rattle.wedge_step.specs.Ready.{IsReady}
 use Rattle.shadow_tables.specs.Sight.{sight}
+use Rattle.wedge_step.specs.Scene.{AreAmple}
 use Rattle.wedge_step.specs.Standing.{IsHeld, ground, side_of, state_of}
 use Rattle.wedge_step.specs.declared.running.Running.{Running}
 use Rattle.wedge_step.proofs.AfterTry.{After, any_script}
@@ -44,7 +45,8 @@ module _ {S : Type 0} (shows : shadows.Ghosts S)
     (widens : Widens shows) (laws : KnownLaws)
     (image : Image) (script : Events) (r : Running S) (pool : Pool) (memory then : List ℕ)
     (held : IsHeld shows (ground image r.frames) r pool memory) (a : After shows image r.frames r.shadows pool memory then)
-    (steps : List Taken) (t : Taken) (kept : Set) (free : length (free_list pool memory) + r.held ≡ 512) (roomy : Roomy (steps ++ t ∷ []))
+    (steps : List Taken) (t : Taken) (kept : Set) (ample : AreAmple (length (free_list pool memory)) r.held)
+    (roomy : Roomy (steps ++ t ∷ []))
     (taken : IsTakenFrom (wedge image script r.frames) (state_of shows (wedge image script r.frames) r memory) t)
     (by : t.set ≡ entries_of (shows.slots r.shadows memory))
     (carried : IsCarriedBy shows (wedge image script r.frames) steps t.before kept r.shadows memory)
@@ -69,12 +71,12 @@ module _ {S : Type 0} (shows : shadows.Ghosts S)
         let most = laws.few steps (laws.before steps t roomy) in
         omega (arith, size, most)
 
-    all : length (free_list pool then) + length (shows.frames r.shadows then) ≡ 512
+    all : AreAmple (length (free_list pool then)) (length (shows.frames r.shadows then))
     all =
         let same = ap length a.free_same in
         let as_many = ap length a.frames_same in
         let counted = held.counted in
-        omega (arith, same, as_many, counted, free)
+        omega (arith, same, as_many, counted, ample)
 
     enough : (s : S) (m : List ℕ) → ∥ shows.stands s m ∥₁
         → shows.has_tables_under s m (λ index. is_member eqb (indices_in (steps ++ t ∷ [])) index) → length (shows.frames s m)

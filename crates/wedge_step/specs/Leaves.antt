@@ -11,7 +11,7 @@ use Rattle.wedge_step.specs.Carried.{IsCarried, IsTakenFrom}
 use Rattle.wedge_step.specs.Filled.{CountsFills}
 use Rattle.wedge_step.specs.Pools.{Keeps}
 use Rattle.wedge_step.specs.Ready.{IsReady}
-use Rattle.wedge_step.specs.Scene.{Scene, free, frames_in, kept_in, state_in}
+use Rattle.wedge_step.specs.Scene.{AreAmple, Scene, free, frames_in, kept_in, state_in}
 use Rattle.wedge_step.specs.Standing.{IsHeld, ground}
 
 -- a step that stopped: neither it nor a page was counted (a frame condition)
@@ -40,10 +40,11 @@ module _ {S : Type 0} (g : shadows.Ghosts S) where
   IsCarriedIn image script steps b c =
       IsCarried g (wedge image script c.guest.frames) steps b c.guest.shadows c.memory
 
-  -- With a whole pool and no notes wanted, what is known of a run goes on over its next step, which uses this set.
+  -- With ample frames and no notes wanted, what is known of a run goes on over its next step, which uses this set.
   abbrev pub CarriesOn : Image → Bool → Set → Scene S → Scene S → Type 0
   CarriesOn image notes_wanted set old new =
-      (script : Events) (steps : List Taken) (t : Taken) → notes_wanted ≡ false → free old + old.guest.held ≡ 512 → Roomy (steps ++ t ∷ [])
+      (script : Events) (steps : List Taken) (t : Taken) → notes_wanted ≡ false → AreAmple (free old) old.guest.held
+      → Roomy (steps ++ t ∷ [])
       → IsTakenFrom (wedge image script old.guest.frames) (state_in g (wedge image script old.guest.frames) old) t → t.set ≡ set
       → IsCarriedIn image script steps t.before old
       → IsCarried g (wedge image script old.guest.frames) (steps ++ t ∷ []) t.after new.guest.shadows new.memory

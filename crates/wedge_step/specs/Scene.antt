@@ -1,5 +1,5 @@
 -- A guest between two of its steps, with what is around it, as one value.
-use Rattle.std.specs.Prelude.{ℕ, List, length}
+use Rattle.std.specs.Prelude.{ℕ, ◌+◌, ◌≤◌, List, length}
 use Rattle.frame_pool.specs.Pool.{free_list}
 use Rattle.frame_pool.specs.declared.Pool.{Pool}
 use Rattle.shadow_tables.specs.declared.shadows.Shadows as shadows
@@ -21,6 +21,11 @@ scene guest pool memory = record { guest = guest; pool = pool; memory = memory }
 -- how many frames of the pool are free
 abbrev pub free : {S : Type 0} → Scene S → ℕ
 free c = length (free_list c.pool c.memory)
+
+-- Of a pool's frames so many are free, and so many are a guest's. While the pages of its steps lie under at most 24 directory
+-- indices its shadows hold at most 400, and the 64 others are enough for any step of its own.
+abbrev pub AreAmple : (free held : ℕ) → Type 0
+AreAmple free held = 464 ≤ free + held
 
 module _ {S : Type 0} (g : shadows.Ghosts S) where
   -- the frames of the pool that the guest's shadows hold

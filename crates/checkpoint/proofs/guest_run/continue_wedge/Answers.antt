@@ -1,4 +1,4 @@
-use Rattle.std.proofs.Common.{ℕ, ◌/◌, [], length, refl, ap, subst}
+use Rattle.std.proofs.Common.{ℕ, ◌/◌, [], length, refl, ap, subst, arith}
 use Rattle.machine_model.specs.State as model
 use Rattle.machine_model.specs.State.{wedge}
 use Rattle.wedge_step.specs.Scene.{scene, state_in}
@@ -19,7 +19,12 @@ whole-requires-clause-filled g c = c.in-Ok.ensures.goes_on.filled
 pub whole-requires-clause-bare : goal.whole-requires-clause-bare
 whole-requires-clause-bare g c =
     let goes = c.in-Ok.ensures.goes_on in
-    record { empty_set = ap (λ (b : model.State). b.set) (goes.state []); two = goes.two; others = goes.free; silent = refl }
+    record {
+      empty_set = ap (λ (b : model.State). b.set) (goes.state []);
+      two = goes.two;
+      ample = (let all = goes.free in omega (arith, all));
+      silent = refl;
+    }
 
 pub returns-in-Err : goal.returns-in-Err
 returns-in-Err g c = record {

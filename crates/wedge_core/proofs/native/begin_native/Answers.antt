@@ -13,7 +13,7 @@ use Rattle.machine_model.specs.Step.{stepped}
 use Rattle.machine_model.specs.Taken.{Taken, is_load}
 use Rattle.kept_laws.specs.Carried.{indices_in}
 use Rattle.wedge_step.specs.Carried.{IsCarried, IsCarriedBy, IsTakenFrom}
-use Rattle.wedge_step.specs.Scene.{scene}
+use Rattle.wedge_step.specs.Scene.{AreAmple, scene}
 use Rattle.wedge_core.specs.declared.native.Attempt.{Attempt}
 use Rattle.wedge_core.specs.declared.native.Attempt.TheVariants as attempt
 use Rattle.wedge_core.proofs.native.begin_native.Given.{Over}
@@ -93,7 +93,7 @@ module _ (g : Over) (c : goal.After-try_once g) where
     by_there : (t : Taken) → t.set ≡ left_of c.try_once.new.running.lost.before b.set → t.set ≡ d.set
     by_there t by = by ∙ (ap (λ (x : Bool). left_of x b.set) c.try_once.ensures.tries.before ∙ sym c.make_room.ensures.left)
 
-    module _ (steps : List Taken) (t : Taken) (free : length (free_list c.args.pool.now ram0) + running.held ≡ 512)
+    module _ (steps : List Taken) (t : Taken) (ample : AreAmple (length (free_list c.args.pool.now ram0)) running.held)
         (roomy : Roomy (steps ++ t ∷ []))
         (carried : IsCarried g.S.Shadows m steps t.before running.shadows ram0)
       where
@@ -103,14 +103,14 @@ module _ (g : Over) (c : goal.After-try_once g) where
             c.requires.between.held.stand carried.opened_to (λ index lt is. is) in
             let few = c.known_laws.ensures.few steps (c.known_laws.ensures.before steps t roomy) in
             let counted = c.requires.between.held.counted in
-            omega (arith, size, few, counted, free)
+            omega (arith, size, few, counted, ample)
 
-        free_there : length (free_list c.make_room.new.pool ram1) + mid.held ≡ 512
-        free_there =
+        ample_there : AreAmple (length (free_list c.make_room.new.pool ram1)) mid.held
+        ample_there =
             let lengths = c.make_room.ensures.moves.lengths in
             let before = c.requires.between.held.counted in
             let after = c.make_room.ensures.held.counted in
-            omega (arith, lengths, before, after, free)
+            omega (arith, lengths, before, after, ample)
 
         carried_there : IsCarriedBy g.S.Shadows m steps t.before (entries_of (g.S.Shadows.slots running.shadows ram0)) mid.shadows ram1
         carried_there = record {
@@ -127,7 +127,7 @@ module _ (g : Over) (c : goal.After-try_once g) where
 
   abbrev IsTaken : Running g.row.S.Denot → Events → List Taken → Taken → Type 0 → Type 0
   IsTaken r script steps t fact =
-      c.args.notes_wanted ≡ false → length (free_list c.make_room.new.pool ram1) + r.held ≡ 512 → Roomy (steps ++ t ∷ [])
+      c.args.notes_wanted ≡ false → AreAmple (length (free_list c.make_room.new.pool ram1)) r.held → Roomy (steps ++ t ∷ [])
       → IsTakenFrom (wedge image script r.frames) (state_of g.S.Shadows (wedge image script r.frames) r ram1) t
       → t.set ≡ set_of g.S.Shadows r ram1 → fact
 
@@ -208,17 +208,17 @@ returns-clause-attempts g c = record {
       attempt_before m view b d new.lost.before new.lost c.try_once.result after ram2 is left tried;
   carried =
       where_stepped c.try_once.result
-      (λ f script steps t unwanted free roomy taken by carried.
-      f script steps t unwanted (free_there g c script steps t free roomy carried) roomy (taken_there g c script t taken)
+      (λ f script steps t unwanted ample roomy taken by carried.
+      f script steps t unwanted (ample_there g c script steps t ample roomy carried) roomy (taken_there g c script t taken)
       (by_there g c script t by) (entries_of (g.S.Shadows.slots c.args.running.now.shadows c.args.ram.now))
-      (carried_there g c script steps t free roomy carried))
+      (carried_there g c script steps t ample roomy carried))
       (tried g c);
   carried_asked =
       where_asked c.try_once.result
-      (λ f script steps t unwanted free roomy taken by load rules set long bytes carried.
-      f script steps t unwanted (free_there g c script steps t free roomy carried) roomy (taken_there g c script t taken)
+      (λ f script steps t unwanted ample roomy taken by load rules set long bytes carried.
+      f script steps t unwanted (ample_there g c script steps t ample roomy carried) roomy (taken_there g c script t taken)
       (by_there g c script t by) load rules set long bytes (entries_of (g.S.Shadows.slots c.args.running.now.shadows c.args.ram.now))
-      (carried_there g c script steps t free roomy carried))
+      (carried_there g c script steps t ample roomy carried))
       (asked g c);
   clashed = λ lost room. c.make_room.ensures.clashed (sym c.try_once.ensures.tries.before ∙ lost) room;
   leaves = record {

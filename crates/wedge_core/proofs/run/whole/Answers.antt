@@ -36,7 +36,8 @@ module _ (g : Over) where
 
   begins_in : (m : Setting) (pool : Pool) (r : Running Roots) (memory : List ℕ) → state_of of_roots m r memory ≡ boot m → r.held ≡ 2
       → pool_in pool r memory ≡ 512 → empty_in pool r memory
-  begins_in m pool r memory first two all = record { empty_set = ap (λ (b : State). b.set) first; two = two; others = all; silent = refl }
+  begins_in m pool r memory first two all =
+      record { empty_set = ap (λ (b : State). b.set) first; two = two; ample = omega (arith, all); silent = refl }
 
 pub slice-requires-clause-bound : goal.slice-requires-clause-bound
 slice-requires-clause-bound g c =

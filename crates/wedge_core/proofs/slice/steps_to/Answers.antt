@@ -25,9 +25,10 @@ use Rattle.wedge_step.specs.Pools.{Keeps}
 use Rattle.wedge_core.specs.Slices.{Counts}
 use Rattle.wedge_core.proofs.SlicedBy.{SliceAs}
 use Rattle.wedge_step.specs.Ready.{IsReady}
+use Rattle.wedge_step.specs.Scene.{AreAmple}
 use Rattle.wedge_step.specs.Standing.{IsHeld, IsAble, ground, state_of}
 use Rattle.wedge_core.specs.Stepping.{Passes, StepAs}
-use Rattle.wedge_core.proofs.CarriedOver.{CarriedWith, with_kept, carries_past, carried_there, room_at, whole_then, drop_clashes, step_carries}
+use Rattle.wedge_core.proofs.CarriedOver.{CarriedWith, with_kept, carries_past, carried_there, room_at, ample_then, drop_clashes, step_carries}
 use Rattle.wedge_core.proofs.Passed.{CarriesPast}
 use Rattle.wedge_core.proofs.Going.{DropClashes, StepCarries, going_none, going_past, going_turned, going_on, stepped_put, reached, stopped, failed, counted, counts_same, turned, notes_on_more, notes_on_none}
 use Rattle.wedge_step.specs.Filled.{CountsFills, pages_kept}
@@ -110,7 +111,7 @@ module _ (g : Over) where
   abbrev Begun : Image → Events → ℕ → Running g.row.S.Denot → List ℕ → Pool → Bool → Type 0
   Begun image script f r memory pool notes_wanted =
       IsCarried g.S.Shadows (wedge image script f) [] (state_of g.S.Shadows (wedge image script f) r memory) r.shadows memory
-      × (length (free_list pool memory) + r.held ≡ 512) × (notes_wanted ≡ false)
+      × AreAmple (length (free_list pool memory)) r.held × (notes_wanted ≡ false)
 
   abbrev Knows : Setting → Running g.row.S.Denot → List ℕ → Set → List Taken → State → Type 0
   Knows m r memory kept steps b = CarriedWith g.S.Shadows m r.shadows memory kept steps b
@@ -345,7 +346,7 @@ returns-in-Err-clause-slice g c =
     c.loop-running.pool c.begin.new.self begins c.wanted-notes_wanted.result
     (c.stretch.ensures.leaves.frames ∙ inv.frames) stays c.begin.ensures inv.held held_mid c.stretch.ensures.leaves.kept
     c.stretch.ensures.leaves.apart
-    (λ s. whole_then g.S.Shadows (widens g) laws (ground c.args.image.now f) c.args.running.now mid c.args.pool.now c.loop-running.pool
+    (λ s. ample_then g.S.Shadows (widens g) laws (ground c.args.image.now f) c.args.running.now mid c.args.pool.now c.loop-running.pool
     (g.H.Host.bytes c.args.host.now) then_memory c.requires.between.held held_mid keeps_mid s.1)
     c.in-Err.ensures.steps.clashed in
     let ends = stopped m c.args.bound old (at f r memory) (at f new new_memory) new.lost c.in-Err.stop counts so_far told tells
@@ -425,7 +426,7 @@ returns-in-Err-put_seen-clause-slice g c =
     c.loop-running.pool c.begin.new.self begins c.wanted-notes_wanted.result
     (c.stretch.ensures.leaves.frames ∙ inv.frames) stays c.begin.ensures inv.held held_mid c.stretch.ensures.leaves.kept
     c.stretch.ensures.leaves.apart (λ s. inv.notes_wanted ∙ s.2)
-    (λ s. whole_then g.S.Shadows (widens g) laws (ground c.args.image.now f) c.args.running.now mid c.args.pool.now c.loop-running.pool
+    (λ s. ample_then g.S.Shadows (widens g) laws (ground c.args.image.now f) c.args.running.now mid c.args.pool.now c.loop-running.pool
     (g.H.Host.bytes c.args.host.now) then_memory c.requires.between.held held_mid keeps_mid s.1)
     c.in-Ok.ensures.steps.carried c.in-Ok.ensures.steps.clashed in
     let s = going_on m old (at f r memory) (at f new new_memory) new.lost c.in-Ok.seen counts so_far new_counts told tells
@@ -505,7 +506,7 @@ loop-running-preserved g c =
     c.loop-running.pool c.begin.new.self begins c.wanted-notes_wanted.result
     (c.stretch.ensures.leaves.frames ∙ inv.frames) stays c.begin.ensures inv.held held_mid c.stretch.ensures.leaves.kept
     c.stretch.ensures.leaves.apart (λ s. inv.notes_wanted ∙ s.2)
-    (λ s. whole_then g.S.Shadows (widens g) laws (ground c.args.image.now f) c.args.running.now mid c.args.pool.now c.loop-running.pool
+    (λ s. ample_then g.S.Shadows (widens g) laws (ground c.args.image.now f) c.args.running.now mid c.args.pool.now c.loop-running.pool
     (g.H.Host.bytes c.args.host.now) then_memory c.requires.between.held held_mid keeps_mid s.1)
     c.in-Ok.ensures.steps.carried c.in-Ok.ensures.steps.clashed in
     let s = going_on m old (at f r memory) (at f new new_memory) new.lost c.in-Ok.seen counts so_far new_counts told tells

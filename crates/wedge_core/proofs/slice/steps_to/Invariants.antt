@@ -1,9 +1,10 @@
-use Rattle.std.proofs.Common.{◌≡◌, ◌+◌, ◌-◌, ◌≤◌, ◌<◌, ◌^◌, true, false, [], length}
+use Rattle.std.proofs.Common.{◌≡◌, ◌-◌, ◌+◌, ◌≤◌, ◌<◌, ◌^◌, true, false, [], length}
 use Rattle.machine_model.specs.State.{wedge}
 use Rattle.wedge_step.specs.Filled.{CountsFills, pages_kept}
 use Rattle.wedge_core.specs.Noted.{NotesOn}
 use Rattle.wedge_step.specs.Pools.{Keeps}
 use Rattle.wedge_step.specs.Ready.{IsReady}
+use Rattle.wedge_step.specs.Scene.{AreAmple}
 use Rattle.wedge_step.specs.Standing.{IsHeld, IsAble, ground, state_of}
 use Rattle.frame_pool.specs.Pool.{free_list}
 use Rattle.wedge_step.specs.Carried.{IsCarried}
@@ -24,7 +25,7 @@ invariant-loop-running g l = record {
       (IsCarried g.S.Shadows (wedge l.image l.script.list l.fn.running.frames) []
       (state_of g.S.Shadows (wedge l.image l.script.list l.fn.running.frames) l.fn.running (g.H.Host.bytes l.fn.host)) l.fn.running.shadows
       (g.H.Host.bytes l.fn.host)
-      × (length (free_list l.fn.pool (g.H.Host.bytes l.fn.host)) + l.fn.running.held ≡ 512) × (g.L.Notes.wants l.fn.notes ≡ false))
+      × AreAmple (length (free_list l.fn.pool (g.H.Host.bytes l.fn.host))) l.fn.running.held × (g.L.Notes.wants l.fn.notes ≡ false))
       (CarriedWith g.S.Shadows (wedge l.image l.script.list l.fn.running.frames) l.running.shadows (g.H.Host.bytes l.host));
   held : IsHeld g.S.Shadows (ground l.image l.fn.running.frames) l.running l.pool (g.H.Host.bytes l.host);
   ready : IsReady g.S.Shadows (ground l.image l.fn.running.frames) l.running.cpu l.running.shadows (g.H.Host.bytes l.host);

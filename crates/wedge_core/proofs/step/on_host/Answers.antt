@@ -27,7 +27,7 @@ use Rattle.wedge_step.specs.Filled.{CountsFills, pages_kept}
 use Rattle.wedge_step.specs.Leaves.{Accounts, IsBetween}
 use Rattle.wedge_step.specs.Parts.{left_of}
 use Rattle.wedge_step.specs.Ready.{IsReady}
-use Rattle.wedge_step.specs.Scene.{scene}
+use Rattle.wedge_step.specs.Scene.{AreAmple, scene}
 use Rattle.wedge_step.specs.Standing.{IsHeld, ground, set_of, side_of, state_of}
 use Rattle.wedge_step.specs.declared.running.Lost.{Lost}
 use Rattle.wedge_step.specs.declared.running.Running.{Running}
@@ -295,19 +295,19 @@ module _ (g : Over) (c : goal.After-ram g) where
 
   -- its pages were settled before
   asked_on : (script : Events) (steps : List Taken) (t : Taken) → AreBytes (shown (ground c.args.image.now n) m2)
-      → c.args.notes_wanted ≡ false → length (free_list c.args.pool.now m0) + r0.held ≡ 512 → Roomy (steps ++ t ∷ [])
+      → c.args.notes_wanted ≡ false → AreAmple (length (free_list c.args.pool.now m0)) r0.held → Roomy (steps ++ t ∷ [])
       → IsTakenFrom (wedge c.args.image.now script n) (state_of g.S.Shadows (wedge c.args.image.now script n) r0 m0) t
       → t.set ≡ left_of r2.lost.before (set_of g.S.Shadows r0 m0)
       → IsCarried g.S.Shadows (wedge c.args.image.now script n) steps t.before r0.shadows m0
       → IsCarried g.S.Shadows (wedge c.args.image.now script n) (steps ++ t ∷ []) t.after r1.shadows m1
-  asked_on script steps t bytes unwanted free roomy taken by carried =
+  asked_on script steps t bytes unwanted ample roomy taken by carried =
       let by1 : t.set ≡ left_of r1.lost.before (set_of g.S.Shadows r0 m0) =
       by ∙ ap (λ (l : Lost). left_of l.before (set_of g.S.Shadows r0 m0)) lost_same in
       let k = once_taken g.S.Shadows _ _ _ _ _ _ _ _ _ _ _ once script t taken by1 in
       let long = shown_length (ground c.args.image.now n) held.wedge m2 held.host in
       let size_is = ap length k.3 in
       let f = attempts.carried_asked in
-      f script steps t unwanted free roomy taken by1 k.0 k.1 k.2 (omega (arith, long, size_is)) (subst AreBytes (sym k.3) bytes) carried
+      f script steps t unwanted ample roomy taken by1 k.0 k.1 k.2 (omega (arith, long, size_is)) (subst AreBytes (sym k.3) bytes) carried
 
   -- and what is kept is as it was
   carried_still : (m : Setting) (steps : List Taken) (b : State) → IsCarried g.S.Shadows m steps b r1.shadows m1
@@ -353,11 +353,11 @@ returns-in-Ok-Asked g c =
       steps = record {
         step = λ script. once_goes_on g.S.Shadows _ _ _ _ _ _ _ _ _ _ _ o script;
         able = once_able g.S.Shadows _ _ _ _ _ _ _ _ _ _ _ o c.steps_keep_able.ensures c.requires.able;
-        carried = λ script steps t unwanted free roomy taken by carried.
+        carried = λ script steps t unwanted ample roomy taken by carried.
             carried_still g c.before (wedge c.args.image.now script c.args.running.now.frames) (steps ++ t ∷ []) t.after
             (asked_on g c.before script steps t
             (subst (λ (l : List ℕ). AreBytes (shown (ground c.args.image.now c.args.running.now.frames) l)) c.ram.ensures
-            c.are_bytes.ensures.bytes) unwanted free roomy taken by carried);
+            c.are_bytes.ensures.bytes) unwanted ample roomy taken by carried);
         clashed = λ lost room script b cpu ram set board.
             clashes_by (wedge c.args.image.now script c.args.running.now.frames) b c.args.running.now.cpu c.args.running.now.board
             c.args.image.now cpu board c.requires.runs

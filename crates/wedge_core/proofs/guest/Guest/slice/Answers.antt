@@ -20,7 +20,7 @@ use Rattle.wedge_core.specs.Slices.{BeginsEmpty, Counts}
 use Rattle.wedge_core.proofs.SlicedBy.{SliceAs}
 use Rattle.run_trace.specs.Pauses.{IfReached}
 use Rattle.wedge_step.specs.Leaves.{IsBetween}
-use Rattle.wedge_step.specs.Scene.{scene}
+use Rattle.wedge_step.specs.Scene.{AreAmple, scene}
 use Rattle.wedge_step.specs.Standing.{IsHeld, ground, state_of}
 use Rattle.wedge_step.specs.declared.running.Running.{Running}
 use Rattle.wedge_step.proofs.Keeping.{keeps_join}
@@ -181,7 +181,7 @@ returns-clause-slice g c =
     let first = pages_kept of_roots begun.shadows m1 in
     let pages = pages_kept of_roots old.shadows m0 in
     let Knows = λ (n : ℕ). IsCarried of_roots (wedge image script n) [] (state_of of_roots (wedge image script n) begun m1) begun.shadows m1
-    × (length (free_list c.begin.new.pool m1) + begun.held ≡ 512) × (notes_wanted ≡ false) in
+    × AreAmple (length (free_list c.begin.new.pool m1)) begun.held × (notes_wanted ≡ false) in
     let starts = BeginsEmpty (entries_of (roots.slots old.shadows m0)) (length (free_list c.args.pool.now m0)) old.held notes_wanted in
     let by_frames =
     subst (λ (n : ℕ). SliceAs (wedge image script n) bound (state_of of_roots (wedge image script n) begun m1)
@@ -211,8 +211,8 @@ returns-clause-slice g c =
     let count = between.held.counted in
     let count_now = held_now.counted in
     let lengths = c.begin.ensures.begins.keeps.lengths in
-    let others = s.others in (
+    let ample = s.ample in (
       anew_carries of_roots c.carry_laws.ensures m (state_of of_roots m begun m1) begun.shadows m1 none (c.begin.ensures.begins.anew s.two),
-      omega (arith, count, count_now, lengths, others),
+      omega (arith, count, count_now, lengths, ample),
       s.silent,
     )) by_counts)
