@@ -1,5 +1,5 @@
 -- From a slice of a patched run and the last line to the rest of a run.
-use Rattle.std.proofs.Common.{◌≡◌, ℕ, ◌*◌, ◌≤◌, List, [], ◌++◌, take, Option, Ok, Err, refl, sym, ap, subst, ◌∙◌}
+use Rattle.std.proofs.Common.{◌≡◌, ℕ, ◌*◌, ◌≤◌, List, [], ◌∷◌, ◌++◌, take, Option, Ok, Err, refl, sym, ap, subst, ◌∙◌}
 use Rattle.std.proofs.lemmas.List.{append-nil}
 use Rattle.pv_io.specs.declared.answer.Failed.{Failed}
 use Rattle.pv_io.specs.Causes.{Rose}
@@ -16,8 +16,9 @@ use Rattle.machine_model.proofs.Texts.{text_join}
 use Rattle.machine_model.proofs.Runs.{steps_join}
 use Rattle.bare_machine.specs.Answers.{RunsTo}
 use Rattle.wedge_core.specs.Promises.{HasFills, with_patches}
-use Rattle.wedge_core.specs.Slices.{Filling, Noting, Outward, SliceAs}
+use Rattle.wedge_core.specs.Slices.{Filling, Knowing, Noting, Outward, SliceAs}
 use Rattle.machine_model.specs.Joined.{KeptBefore}
+use Rattle.wedge_core.proofs.AfterPast.{kept_first}
 use Rattle.wedge_core.proofs.WholeRuns.{text_is, ends_by, count_by, memory_by, kept_by}
 use Rattle.checkpoint.specs.Continued.{PromiseFrom}
 use Rattle.checkpoint.proofs.Filling.{filled_in}
@@ -28,14 +29,14 @@ WentOn m n old out c before now memory steps end fills =
     (text : List ℕ) × (run : PromiseFrom m n old text steps end out.before out.after memory) × Appends out.told c text
     × (now ≡ before) × HasFills m run.sets run.last fills
 
-module _ {m : Setting} {n : ℕ} {old new : State} {out : Outward} {filling : Filling} {noting : Noting} {begins : Type 0} where
-  went_to : KeptBefore → begins → (c : Option (List ℕ)) (pause : Pause) (before mid now : ℕ) (memory : List ℕ) (steps fills : ℕ)
+module _ {m : Setting} {n : ℕ} {old new : State} {out : Outward} {filling : Filling} {noting : Noting} {knows : Knowing} where
+  went_to : KeptBefore → (c : Option (List ℕ)) (pause : Pause) (before mid now : ℕ) (memory : List ℕ) (steps fills : ℕ)
       → fills ≡ filling.filled → filling.pages ≤ filling.fills → filling.filled ≤ 128 * new.step → steps ≡ new.step
       → IfReached (Ok pause) (take (4096 * m.frames) memory ≡ with_patches m.image new.ram)
-      → SliceAs m n old new out filling noting begins (Ok pause) → Appends out.tells c (end_line steps (end_of pause))
-      → mid ≡ before → now ≡ mid
+      → SliceAs m n old new out filling noting knows (Ok pause) → knows.before []
+      → Appends out.tells c (end_line steps (end_of pause)) → mid ≡ before → now ≡ mid
       → WentOn m n old out c before now memory steps (end_of pause) fills
-  went_to law bare c pause before mid now memory steps fills fills_is were few steps_is has h put same more = (
+  went_to law c pause before mid now memory steps fills fills_is were few steps_is has h bare put same more = (
     lines_of (trace_of h.reports) ++ end_line steps (end_of pause),
     record {
       sets = h.sets;
@@ -46,7 +47,7 @@ module _ {m : Setting} {n : ℕ} {old new : State} {out : Outward} {filling : Fi
       text_is = text_is h.reports steps (end_of pause);
       counts = h.counts;
       memory_is = memory_by m n h.last new h.end pause memory has h.ends;
-      kept = kept_by law m n old h.last new h.sets h.end pause h.ends (h.kept bare);
+      kept = kept_by law m n old h.last new h.sets h.end pause h.ends (kept_first m old (h.sets ++ h.end ∷ []) (h.kept [] bare));
     },
     appends_both out.told out.tells c _ _ h.text put,
     more ∙ same,
@@ -54,20 +55,21 @@ module _ {m : Setting} {n : ℕ} {old new : State} {out : Outward} {filling : Fi
   )
 
   -- all lines and the last one were put
-  pub went_on : KeptBefore → begins → (c : Option (List ℕ)) (pause : Pause) (before mid now : ℕ) (memory : List ℕ) (steps : ℕ)
+  pub went_on : KeptBefore → (c : Option (List ℕ)) (pause : Pause) (before mid now : ℕ) (memory : List ℕ) (steps : ℕ)
       (end : End) (fills : ℕ)
       → fills ≡ filling.filled → filling.pages ≤ filling.fills → filling.filled ≤ 128 * new.step → steps ≡ new.step → end ≡ end_of pause
       → IfReached (Ok pause) (take (4096 * m.frames) memory ≡ with_patches m.image new.ram)
-      → SliceAs m n old new out filling noting begins (Ok pause) → Appends out.tells c (end_line steps end) → mid ≡ before → now ≡ mid
+      → SliceAs m n old new out filling noting knows (Ok pause) → knows.before [] → Appends out.tells c (end_line steps end)
+      → mid ≡ before → now ≡ mid
       → WentOn m n old out c before now memory steps end fills
-  went_on law bare c pause before mid now memory steps end fills fills_is were few steps_is end_is has h put same more =
+  went_on law c pause before mid now memory steps end fills fills_is were few steps_is end_is has h bare put same more =
       subst (λ (e : End). WentOn m n old out c before now memory steps e fills) (sym end_is)
-      (went_to law bare c pause before mid now memory steps fills fills_is were few steps_is has h
+      (went_to law c pause before mid now memory steps fills fills_is were few steps_is has h bare
       (subst (λ (e : End). Appends out.tells c (end_line steps e)) end_is put) same more)
 
   -- all lines and a front of the last one
   pub went_unput : (c : Option (List ℕ)) (pause : Pause) (before mid now : ℕ) (steps : ℕ) (end : End)
-      → steps ≡ new.step → end ≡ end_of pause → SliceAs m n old new out filling noting begins (Ok pause)
+      → steps ≡ new.step → end ≡ end_of pause → SliceAs m n old new out filling noting knows (Ok pause)
       → AppendsFront out.tells c (end_line steps end) → mid ≡ before → Rose mid now
       → (text : List ℕ) × (count : ℕ) × (e : End) × RunsTo m n old text count e × AppendsFront out.told c text × Rose before now
   went_unput c pause before mid now steps end steps_is end_is h put same rose = (
@@ -91,7 +93,7 @@ module _ {m : Setting} {n : ℕ} {old new : State} {out : Outward} {filling : Fi
   )
 
   -- a front of the lines
-  pub went_front : (failed : Failed) (before now : ℕ) → SliceAs m n old new out filling noting begins (Err failed) → Rose before now
+  pub went_front : (failed : Failed) (before now : ℕ) → SliceAs m n old new out filling noting knows (Err failed) → Rose before now
       → (text : List ℕ) × (count : ℕ) × (e : End) × RunsTo m n old text count e × AppendsFront out.told out.tells text × Rose before now
   went_front failed before now h rose =
       let e = each_ends m n h.last h.ends in (

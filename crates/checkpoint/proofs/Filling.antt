@@ -8,7 +8,7 @@ use Rattle.machine_model.specs.State.{Setting, State, Loosened}
 use Rattle.machine_model.specs.Run.{Set}
 use Rattle.wedge_step.specs.Filled.{CountsFills}
 use Rattle.wedge_core.specs.Promises.{HasFills}
-use Rattle.wedge_core.specs.Slices.{Filling, Noting, Outward, PausesAs, SliceAs}
+use Rattle.wedge_core.specs.Slices.{Filling, Knowing, Noting, Outward, PausesAs, SliceAs}
 use Rattle.wedge_core.proofs.WholeRuns.{count_by}
 
 -- a run that paused may go on with what it left
@@ -17,10 +17,10 @@ allowed_by : (m : Setting) (n : ℕ) (last new : State) (end : Set) (pause : Pau
 allowed_by m n last new end Reached h = h.2
 allowed_by m n last new end (Stopped stop) h = h.2
 
-module _ {m : Setting} {n : ℕ} {old new : State} {out : Outward} {filling : Filling} {noting : Noting} {begins : Type 0} where
+module _ {m : Setting} {n : ℕ} {old new : State} {out : Outward} {filling : Filling} {noting : Noting} {knows : Knowing} where
   -- where no more were kept before than were filled
   pub filled_in : (pause : Pause) → filling.pages ≤ filling.fills → filling.filled ≤ 128 * new.step
-      → (h : SliceAs m n old new out filling noting begins (Ok pause)) → HasFills m h.sets h.last filling.filled
+      → (h : SliceAs m n old new out filling noting knows (Ok pause)) → HasFills m h.sets h.last filling.filled
   filled_in pause were few h = record {
     end = h.end;
     allowed = allowed_by m n h.last new h.end pause h.ends;

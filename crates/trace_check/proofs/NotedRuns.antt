@@ -21,7 +21,7 @@ use Rattle.wedge_core.specs.Surroundings.{Around}
 use Rattle.wedge_core.specs.Counts.{Counts}
 use Rattle.wedge_core.specs.Guests.{HasGuest}
 use Rattle.wedge_core.specs.Promises.{with_patches}
-use Rattle.wedge_core.specs.Slices.{PausesAs}
+use Rattle.wedge_core.specs.Slices.{Knowing, PausesAs}
 use Rattle.wedge_core.proofs.SlicedBy.{SliceAs}
 use Rattle.wedge_core.proofs.WholeRuns.{Standing, text_is, ends_by, count_by, memory_by, has_fills}
 use Rattle.trace_check.specs.ChoicesTold.{choices_of}
@@ -110,10 +110,10 @@ within m n last new end (Stopped stop) h = let lt = h.0 in omega (arith, lt)
 
 -- The slice from the start that keeps its notes.
 abbrev Sliced : Image → Events → ℕ → ℕ → State → State → Counts → Counts → Option (List ℕ) → Option (List ℕ) → ℕ → ℕ → ℕ → KeptChoices
-    → KeptChoices → Type 0 → Pause → Type 0
-Sliced image script frames n old new before after told tells pages fills filled kept kept_after begins pause =
+    → KeptChoices → Knowing → Pause → Type 0
+Sliced image script frames n old new before after told tells pages fills filled kept kept_after knows pause =
     SliceAs (wedge image script frames) n old new before after told tells pages fills filled true
-    (NotesOn true (AreKept kept) (AreKept kept_after)) begins (Ok pause)
+    (NotesOn true (AreKept kept) (AreKept kept_after)) knows (Ok pause)
 
 -- what is around a run, by each of its parts
 abbrev pub around_of : Option (List ℕ) → Option (List ℕ) → ℕ → ℕ → Counts → Counts → Around
@@ -122,16 +122,16 @@ around_of old new before now counts counts_after =
 
 -- all lines and the last one were put
 pub noted_put : (image : Image) (script : Events) (frames n : ℕ) (old new : State) (counts counts_after : Counts) (a b c : Option (List ℕ))
-    (pages fills filled : ℕ) (kept kept_after : KeptChoices) (begins : Type 0) (pause : Pause) (before mid now : ℕ) (memory : List ℕ)
+    (pages fills filled : ℕ) (kept kept_after : KeptChoices) (knows : Knowing) (pause : Pause) (before mid now : ℕ) (memory : List ℕ)
     → NotesAreJudged → NotesAreChoices → n ≤ 2 ^ 40 → AreKept kept []
     → need image ≤ frames → old ≡ boot (wedge image script frames) → pages ≡ 0 → fills ≡ 0 → filled ≤ 128 * new.step
     → IfReached (Ok pause) (take (4096 * frames) memory ≡ with_patches image new.ram)
     → IfReached (Ok pause) (Standing (wedge image script frames) new filled memory)
-    → Sliced image script frames n old new counts counts_after a b pages fills filled kept kept_after begins pause
+    → Sliced image script frames n old new counts counts_after a b pages fills filled kept kept_after knows pause
     → Appends b c (end_line new.step (end_of pause)) → mid ≡ before → now ≡ mid
     → NotedAnswers image script frames n kept_after (around_of a c before now counts counts_after) memory
     (Ok (record { steps = new.step; end = end_of pause; fills = filled }))
-noted_put image script frames n old new counts counts_after a b c pages fills filled kept kept_after begins pause before mid now memory
+noted_put image script frames n old new counts counts_after a b c pages fills filled kept kept_after knows pause before mid now memory
     judges forms bound untold fits is first none few has stands h put kept_so more =
     let m = wedge image script frames in
     let end = end_of pause in
@@ -172,7 +172,7 @@ noted_put image script frames n old new counts counts_after a b c pages fills fi
         };
       },
       fits,
-      has_fills m n old new counts counts_after a b pages fills filled true (NotesOn true (AreKept kept) (AreKept kept_after)) begins
+      has_fills m n old new counts counts_after a b pages fills filled true (NotesOn true (AreKept kept) (AreKept kept_after)) knows
           pause first none few h,
       appends_both a b c _ _ h.text put,
       more ∙ kept_so,

@@ -1,5 +1,5 @@
 -- What a run knows, over steps in which it has no part and over one step of its own.
-use Rattle.std.proofs.Common.{◌≡◌, ℕ, ◌+◌, ◌*◌, ◌≤◌, Bool, true, false, eqb, List, [], ◌∷◌, ◌++◌, length, sym, ap, subst, ◌∙◌, arith}
+use Rattle.std.proofs.Common.{◌≡◌, ℕ, ◌*◌, ◌≤◌, Bool, true, false, eqb, List, [], ◌∷◌, ◌++◌, length, sym, ap, subst, ◌∙◌, arith}
 use Rattle.std.specs.Set.{is_member}
 use Rattle.frame_pool.specs.Held.{SameIn}
 use Rattle.frame_pool.specs.Pool.{free_list}
@@ -31,6 +31,7 @@ use Rattle.wedge_step.proofs.Widening.{Widens}
 use Rattle.wedge_step.proofs.AfterTry.{any_script}
 use Rattle.wedge_core.proofs.Going.{DropClashes, StepCarries, eventful}
 use Rattle.wedge_core.proofs.Passed.{CarriesPast}
+use Rattle.wedge_core.proofs.WithSet.{known_with}
 
 module _ {S : Type 0} (shows : shadows.Ghosts S) where
   -- all is known, where the next step uses this set
@@ -45,6 +46,15 @@ module _ {S : Type 0} (shows : shadows.Ghosts S) where
       → CarriedWith m s memory kept steps b → IsCarried shows m steps b s memory
   as_kept m s memory kept steps b is c =
       record { known = subst (IsKnown m steps b (sight shows s memory)) (sym is) c.known; opened_to = c.opened_to }
+
+  -- what is known with what is kept is known too of the state in which that stands
+  pub as_carried : (m : Setting) (s : S) (memory : List ℕ) (b : State) (steps : List Taken) (whole : Set)
+      → b.set ≡ entries_of (shows.slots s memory) → CarriedWith m s memory b.set steps (with_set b whole)
+      → IsCarried shows m steps b s memory
+  as_carried m s memory b steps whole is c = record {
+    known = subst (IsKnown m steps b (sight shows s memory)) is (known_with m steps b (sight shows s memory) whole b.set c.known);
+    opened_to = c.opened_to;
+  }
 
   -- the guest's memory has all its frames
   pub room_at : (image : Image) (script : Events) (f : ℕ) (g : Running S) (pool : Pool) (memory : List ℕ)
@@ -116,7 +126,7 @@ module _ {S : Type 0} (shows : shadows.Ghosts S) where
 
     -- a stretch in which nothing was done, and then one step of the run's own
     module _ (image : Image) (script : Events) (f : ℕ) (r mid new : Running S) (memory then after : List ℕ) (pool : Pool) (board : Board)
-        (begins : Type 0) (notes_wanted : Bool) where
+        (begins : List Taken → Type 0) (notes_wanted : Bool) where
       abbrev m : Setting
       m = wedge image script f
 
@@ -126,12 +136,13 @@ module _ {S : Type 0} (shows : shadows.Ghosts S) where
       pub drop_clashes : mid.frames ≡ f → state_of shows m mid then ≡ record now { board = board } → board ≡ given r.board script r.step
           → IsHeld shows (ground image f) r pool memory → IsHeld shows (ground image f) mid pool then → mid.shadows ≡ r.shadows
           → SameIn (shows.frames r.shadows memory) memory then
-          → (begins → AreAmple (length (free_list pool then)) mid.held) → Clashed image mid.frames mid new then pool
+          → ((past : List Taken) → begins past → AreAmple (length (free_list pool then)) mid.held)
+          → Clashed image mid.frames mid new then pool
           → DropClashes m now new.lost.before begins (CarriedWith m r.shadows memory)
-      drop_clashes same stays events held held_mid shadows apart whole clashed = λ s dropped steps left roomy c.
+      drop_clashes same stays events held held_mid shadows apart ample clashed = λ past s dropped steps left roomy c.
           let there = carried_there m r.shadows mid.shadows memory then now.set steps (with_set now left) shadows held.stand apart c in
           let few = few_held m mid.shadows then now.set steps (with_set now left) held_mid.stand roomy there in
-          let all = whole s in
+          let all = ample past s in
           let count = held_mid.counted in
           clashed_at dropped (omega (arith, few, all, count)) script now
           (sym (ap (λ (x : State). x.cpu) stays))
@@ -145,18 +156,19 @@ module _ {S : Type 0} (shows : shadows.Ghosts S) where
       pub step_carries : mid.frames ≡ f → state_of shows m mid then ≡ record now { board = board } → board ≡ given r.board script r.step
           → IsHeld shows (ground image f) r pool memory → IsHeld shows (ground image f) mid pool then → mid.shadows ≡ r.shadows
           → SameIn (shows.frames r.shadows memory) memory then
-          → (begins → notes_wanted ≡ false) → (begins → AreAmple (length (free_list pool then)) mid.held)
+          → ((past : List Taken) → begins past → notes_wanted ≡ false)
+          → ((past : List Taken) → begins past → AreAmple (length (free_list pool then)) mid.held)
           → Carries image mid.frames mid new then after pool notes_wanted → Clashed image mid.frames mid new then pool
           → StepCarries m now (state_of shows m new after) new.lost begins (CarriedWith m r.shadows memory)
           (CarriedWith m new.shadows after)
-      step_carries same stays events held held_mid shadows apart unwanted whole carries clashed = record {
-        clash = drop_clashes same stays events held held_mid shadows apart whole clashed;
-        over = λ s steps t roomy from set_is c.
+      step_carries same stays events held held_mid shadows apart unwanted ample carries clashed = record {
+        clash = drop_clashes same stays events held held_mid shadows apart ample clashed;
+        over = λ past s steps t roomy from set_is c.
             let there = carried_there m r.shadows mid.shadows memory then now.set steps t.before shadows held.stand apart c in
             let set_same : set_of shows mid then ≡ now.set = ap (λ (x : State). x.set) stays in
             let is : eventful m now ≡ state_of shows m mid then = ap (λ (d : Board). record now { board = d }) (sym events) ∙ sym stays in
             with_kept m new.shadows after (steps ++ t ∷ []) t.after
-            (carries_at script steps t (unwanted s) (whole s) roomy (subst (λ (x : State). IsTakenFrom m x t) is from)
+            (carries_at script steps t (unwanted past s) (ample past s) roomy (subst (λ (x : State). IsTakenFrom m x t) is from)
             (set_is ∙ ap (left_of new.lost.before) (sym set_same))
             (as_kept m mid.shadows then now.set steps t.before set_same there));
       }

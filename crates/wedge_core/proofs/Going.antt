@@ -21,16 +21,16 @@ use Rattle.machine_model.specs.Step.{Report, Halts, stepped, step_of, items_at}
 use Rattle.machine_model.specs.Run.{Set, Steps, trace_of, with_set}
 use Rattle.machine_model.specs.Taken.{Taken, steps_by}
 use Rattle.machine_model.specs.Clash.{clashes_from}
-use Rattle.machine_model.specs.Keeping.{Roomy, Kept}
+use Rattle.machine_model.specs.Keeping.{Roomy}
 use Rattle.machine_model.specs.Notes.{AreNotes, is_dropped, set_told}
 use Rattle.machine_model.specs.Untold.{AreLeft}
-use Rattle.machine_model.proofs.Splits.{none_some}
 use Rattle.machine_model.proofs.Counted.{same_step, steps_counted}
 use Rattle.machine_model.proofs.Texts.{lines_join}
 use Rattle.native_steps.specs.Stretch.{IsQuiet}
 use Rattle.wedge_step.specs.Carried.{IsTakenFrom}
 use Rattle.wedge_step.specs.CarryLaws.{CarryLaws}
 use Rattle.wedge_step.specs.Filled.{CountsFills}
+use Rattle.wedge_core.specs.KeptAfter.{KeptAfter}
 use Rattle.wedge_core.specs.Noted.{NotesOn, emptied_if, notes_then}
 use Rattle.wedge_step.specs.Parts.{IsPartOf, left_of}
 use Rattle.wedge_core.specs.Slices.{Counts, CountsOn}
@@ -38,6 +38,7 @@ use Rattle.wedge_core.proofs.SlicedBy.{SliceAs}
 use Rattle.wedge_core.specs.Stepping.{Goes, StepHalts, Passes, StepAs}
 use Rattle.wedge_step.specs.declared.running.Lost.{Lost}
 use Rattle.wedge_step.proofs.Parts.{part_left, part_same, part_allowed, part_loosened}
+use Rattle.wedge_core.proofs.AfterPast.{kept_after_on, none_after, past_joined}
 use Rattle.wedge_core.proofs.Joined.{steps_join, no_steps, steps_one, trace_join, counts_join, counts_none}
 use Rattle.wedge_step.proofs.Filling.{part_few}
 use Rattle.pv_io.proofs.Pieces.{appends_both, appends_none, front_of}
@@ -53,7 +54,8 @@ EachFilled pages before after sets = All (λ (set : Set). CountsFills pages (len
 -- while it is roomy. What is kept a run may go on with; where notes are wanted, it is what they left, but for what the
 -- notes report, by which they went too. Their lines were put, and the counts follow.
 pub record Going (m : Setting) (old now : State) (before after : Counts) (told tells : Option (List ℕ)) (pages fills filled : ℕ)
-    (notes_wanted : Bool) (notes_on : List Note → Type 0) (begins : Type 0) (carried : Set → List Taken → State → Type 0) : Type 0 where
+    (notes_wanted : Bool) (notes_on : List Note → Type 0) (begins : List Taken → Type 0)
+    (carried : Set → List Taken → State → Type 0) : Type 0 where
   pub sets : List Set
   pub reports : List Report
   pub whole : Set
@@ -65,19 +67,18 @@ pub record Going (m : Setting) (old now : State) (before after : Counts) (told t
   pub so_far : SoFar old.step now.step notes
   pub tells_notes : notes_on notes
   pub each_filled : EachFilled pages fills filled sets
-  pub rule : begins → Kept m old sets
-  pub carries : begins → Roomy (steps_by m old sets) → carried now.set (steps_by m old sets) (with_set now whole)
+  pub rule : (past : List Taken) → begins past → KeptAfter m past old sets
+  pub carries : (past : List Taken) → begins past → Roomy (past ++ steps_by m old sets)
+      → carried now.set (past ++ steps_by m old sets) (with_set now whole)
   pub enough : CountsFills pages (len now.set) fills filled
   pub text : Appends told tells (lines_of (trace_of reports))
   pub counts : CountsOn m reports before after
 
--- no step is kept or not
-kept_none : (m : Setting) (b : State) → Kept m b []
-kept_none m b = record { each = λ front set back reports now is there roomy. absurd (none_some front set back is) }
-
 pub going_none : (m : Setting) (b : State) (counts : Counts) (told : Option (List ℕ)) (pages fills : ℕ) (notes_wanted : Bool)
-    (notes_on : List Note → Type 0) (begins : Type 0) (carried : Set → List Taken → State → Type 0) → notes_on [] → len b.set ≤ pages
-    → (begins → carried b.set [] b) → Going m b b counts counts told told pages fills fills notes_wanted notes_on begins carried
+    (notes_on : List Note → Type 0) (begins : List Taken → Type 0) (carried : Set → List Taken → State → Type 0)
+    → notes_on [] → len b.set ≤ pages
+    → ((past : List Taken) → begins past → Roomy past → carried b.set past b) → Going m b b counts counts told told pages fills fills
+    notes_wanted notes_on begins carried
 going_none m b counts told pages fills notes_wanted notes_on begins carried none few start = record {
   sets = [];
   reports = [];
@@ -90,8 +91,9 @@ going_none m b counts told pages fills notes_wanted notes_on begins carried none
   so_far = none_yet b.step;
   tells_notes = none;
   each_filled = All-nil (λ (set : Set). CountsFills pages (len set) fills fills);
-  rule = λ s. kept_none m b;
-  carries = λ s roomy. start s;
+  rule = λ past s. none_after m past b;
+  carries = λ past s roomy. subst (λ (l : List Taken). carried b.set l b) (sym (append-nil past))
+      (start past s (subst Roomy (append-nil past) roomy));
   enough = record { rises = omega arith; enough = omega (arith, few) };
   text = appends_none told;
   counts = counts_none m counts;
@@ -99,7 +101,7 @@ going_none m b counts told pages fills notes_wanted notes_on begins carried none
 
 -- none of them is after the first
 pub none_behind : (m : Setting) (old now : State) (a b : Counts) (told tells : Option (List ℕ)) (pages fills filled : ℕ)
-    (notes_wanted : Bool) (notes_on : List Note → Type 0) (begins : Type 0) (carried : Set → List Taken → State → Type 0)
+    (notes_wanted : Bool) (notes_on : List Note → Type 0) (begins : List Taken → Type 0) (carried : Set → List Taken → State → Type 0)
     → (g : Going m old now a b told tells pages fills filled notes_wanted notes_on begins carried) → old.step + length g.sets ≡ now.step
 none_behind m old now a b told tells pages fills filled notes_wanted notes_on begins carried g =
     sym (steps_counted m old g.sets g.reports (with_set now g.whole) g.steps)
@@ -129,7 +131,7 @@ enough_later pages few before mid after le f =
 -- steps in which nothing is seen
 
 pub going_past : (m : Setting) (old now new : State) (a b c : Counts) (told tells : Option (List ℕ)) (pages fills mid filled : ℕ)
-    (notes_wanted : Bool) (notes_on : List Note → Type 0) (begins : Type 0) (carried : Set → List Taken → State → Type 0)
+    (notes_wanted : Bool) (notes_on : List Note → Type 0) (begins : List Taken → Type 0) (carried : Set → List Taken → State → Type 0)
     → (g : Going m old now a b told tells pages fills mid notes_wanted notes_on begins carried) → mid ≤ filled
     → CountsFills pages (len new.set) fills filled
     → CarryLaws → CarriesPast m carried → 4096 * m.frames ≤ length now.ram → Passes m now new b c
@@ -163,8 +165,8 @@ going_past m old now new a b c told tells pages fills mid filled notes_wanted no
           tells_notes = g.tells_notes;
           each_filled = filled_later pages fills mid filled g.sets rises g.each_filled;
           rule = g.rule;
-          carries = λ s roomy. subst (λ (x : State). carried x.set (steps_by m old g.sets) (with_set x g.whole)) (sym steps.1)
-              (g.carries s roomy);
+          carries = λ past s roomy. subst (λ (x : State). carried x.set (past ++ steps_by m old g.sets) (with_set x g.whole))
+              (sym steps.1) (g.carries past s roomy);
           enough = enough;
           text = put;
           counts = counts_join m g.reports p.reports a b c g.counts p.counts;
@@ -176,10 +178,11 @@ going_past m old now new a b c told tells pages fills mid filled notes_wanted no
         let one : IsQuiet (step_taken (with_set now g.whole) now.set steps.1 steps.0) =
         record { through = q.through; cr0 = q.cr0; cr3 = q.cr3; cr4 = q.cr4; size = q.size } in
         let so_far =
-        λ (s : begins). some_more laws m carried goes old n g.sets g.reports (with_set now g.whole) steps.0 new now.set steps.1 steps.2
+        λ (past : List Taken) (s : begins past). some_more laws m carried goes past old n g.sets g.reports (with_set now g.whole) steps.0
+        new now.set steps.1 steps.2
         g.steps g.allowed (same_step m now g.whole now.set ∙ steps.4) steps.5 (left.1 steps.1 steps.0 steps.4) one
         (All-tail IsQuiet (step_taken now now.set steps.1 steps.0) (steps_by m steps.0 (replicate n now.set)) both) room
-        (record { rule = g.rule s; carries = g.carries s }) in
+        (record { rule = g.rule past s; carries = g.carries past s }) in
         let count = steps_counted m now (replicate (suc n) now.set) p.reports new steps in
         let later : now.step < new.step = omega (arith, count) in
         let first : EachFilled pages fills filled (replicate (suc n) now.set) =
@@ -200,8 +203,8 @@ going_past m old now new a b c told tells pages fills mid filled notes_wanted no
           tells_notes = g.tells_notes;
           each_filled = All-append (λ (set : Set). CountsFills pages (len set) fills filled) g.sets (replicate (suc n) now.set)
               (filled_later pages fills mid filled g.sets rises g.each_filled) first;
-          rule = λ s. (so_far s).rule;
-          carries = λ s. (so_far s).carries;
+          rule = λ past s. (so_far past s).rule;
+          carries = λ past s. (so_far past s).carries;
           enough = enough;
           text = put;
           counts = counts_join m g.reports p.reports a b c g.counts p.counts;
@@ -209,7 +212,8 @@ going_past m old now new a b c told tells pages fills mid filled notes_wanted no
 
 -- the same, in other words of what is known
 pub going_turned : (m : Setting) (old now : State) (a b : Counts) (told tells : Option (List ℕ)) (pages fills filled : ℕ)
-    (notes_wanted : Bool) (notes_on : List Note → Type 0) (begins : Type 0) (carried carried_then : Set → List Taken → State → Type 0)
+    (notes_wanted : Bool) (notes_on : List Note → Type 0) (begins : List Taken → Type 0)
+    (carried carried_then : Set → List Taken → State → Type 0)
     → ((steps : List Taken) (x : State) → carried now.set steps x → carried_then now.set steps x)
     → Going m old now a b told tells pages fills filled notes_wanted notes_on begins carried
     → Going m old now a b told tells pages fills filled notes_wanted notes_on begins carried_then
@@ -226,7 +230,7 @@ going_turned m old now a b told tells pages fills filled notes_wanted notes_on b
   tells_notes = g.tells_notes;
   each_filled = g.each_filled;
   rule = g.rule;
-  carries = λ s roomy. turn (steps_by m old g.sets) (with_set now g.whole) (g.carries s roomy);
+  carries = λ past s roomy. turn (past ++ steps_by m old g.sets) (with_set now g.whole) (g.carries past s roomy);
   enough = g.enough;
   text = g.text;
   counts = g.counts;
@@ -238,7 +242,7 @@ eventful m b = record b { board = given b.board m.script b.step }
 
 -- Some steps were done, and one more. Of its lines something was put.
 pub record Stepped (m : Setting) (old now new : State) (seen : Seen) (before after : Counts) (told tells : Option (List ℕ))
-    (pages fills filled : ℕ) (notes_wanted : Bool) (notes_on : List Note → Type 0) (begins : Type 0)
+    (pages fills filled : ℕ) (notes_wanted : Bool) (notes_on : List Note → Type 0) (begins : List Taken → Type 0)
     (carried : Set → List Taken → State → Type 0) : Type 0 where
   pub sets : List Set
   pub reports : List Report
@@ -251,8 +255,9 @@ pub record Stepped (m : Setting) (old now new : State) (seen : Seen) (before aft
   pub so_far : SoFar old.step new.step notes
   pub tells_notes : notes_on notes
   pub each_filled : EachFilled pages fills filled sets
-  pub rule : begins → Kept m old sets
-  pub carries : begins → Roomy (steps_by m old sets) → carried new.set (steps_by m old sets) (with_set new whole)
+  pub rule : (past : List Taken) → begins past → KeptAfter m past old sets
+  pub carries : (past : List Taken) → begins past → Roomy (past ++ steps_by m old sets)
+      → carried new.set (past ++ steps_by m old sets) (with_set new whole)
   pub enough : CountsFills pages (len new.set) fills filled
   pub front : List Item
   pub trace : trace_of reports ≡ front ++ items_at now.step (whats seen)
@@ -267,7 +272,7 @@ chosen_first m now whole chosen = refl
 
 -- the next step is tried, before which all translations may have been dropped
 module _ (m : Setting) (old now : State) (a b : Counts) (told tells : Option (List ℕ)) (pages fills mid : ℕ) (notes_wanted : Bool)
-    (notes_on : List Note → Type 0) (begins : Type 0) (carried : Set → List Taken → State → Type 0)
+    (notes_on : List Note → Type 0) (begins : List Taken → Type 0) (carried : Set → List Taken → State → Type 0)
     (g : Going m old now a b told tells pages fills mid notes_wanted notes_on begins carried) (dropped : Bool) where
   abbrev pub notes_tried : List Note
   notes_tried = g.notes ++ emptied_if dropped now.step
@@ -301,16 +306,17 @@ module _ (m : Setting) (old now : State) (a b : Counts) (told tells : Option (Li
       record { rises = r; enough = omega (arith, few, e) }
 
 -- Where all was dropped before the next step, it clashes by what was kept.
-abbrev pub DropClashes : Setting → State → Bool → Type 0 → (Set → List Taken → State → Type 0) → Type 0
+abbrev pub DropClashes : Setting → State → Bool → (List Taken → Type 0) → (Set → List Taken → State → Type 0) → Type 0
 DropClashes m now dropped begins carried =
-    begins → dropped ≡ true → (steps : List Taken) (whole : Set) → Roomy steps → carried now.set steps (with_set now whole)
-    → clashes_from m now ≡ true
+    (past : List Taken) → begins past → dropped ≡ true → (steps : List Taken) (whole : Set) → Roomy steps
+    → carried now.set steps (with_set now whole) → clashes_from m now ≡ true
 
 -- So it is, and what is known goes on over that step.
-pub record StepCarries (m : Setting) (now new : State) (lost : Lost) (begins : Type 0)
+pub record StepCarries (m : Setting) (now new : State) (lost : Lost) (begins : List Taken → Type 0)
     (carried carried_then : Set → List Taken → State → Type 0) : Type 0 where
   pub clash : DropClashes m now lost.before begins carried
-  pub over : begins → (steps : List Taken) (t : Taken) → Roomy (steps ++ t ∷ []) → IsTakenFrom m (eventful m now) t
+  pub over : (past : List Taken) → begins past → (steps : List Taken) (t : Taken) → Roomy (steps ++ t ∷ [])
+      → IsTakenFrom m (eventful m now) t
       → t.set ≡ left_of lost.before now.set → carried now.set steps t.before
       → carried_then new.set (steps ++ t ∷ []) t.after
 
@@ -321,24 +327,24 @@ chosen_kept m b false h = inl refl
 
 -- the set that was chosen keeps the rule, whether the step goes or stops
 module _ (m : Setting) (old now : State) (a b : Counts) (told tells : Option (List ℕ)) (pages fills mid : ℕ) (notes_wanted : Bool)
-    (notes_on : List Note → Type 0) (begins : Type 0) (carried : Set → List Taken → State → Type 0)
+    (notes_on : List Note → Type 0) (begins : List Taken → Type 0) (carried : Set → List Taken → State → Type 0)
     (g : Going m old now a b told tells pages fills mid notes_wanted notes_on begins carried) (dropped : Bool) where
-  pub chosen_rule : CarryLaws → CarriesPast m carried → DropClashes m now dropped begins carried → begins
-      → Kept m old (g.sets ++ left_of dropped now.set ∷ [])
-  chosen_rule laws goes clash s =
-      let before = steps_by m old g.sets in
-      laws.rule m old (with_set now g.whole) g.sets (left_of dropped now.set) g.reports g.steps (g.rule s)
-      (λ roomy. goes.next now.set before (with_set now g.whole) (g.carries s roomy) (left_of dropped now.set)
-      (chosen_kept m now dropped (λ drop. clash s drop before g.whole roomy (g.carries s roomy))))
+  pub chosen_rule : CarriesPast m carried → DropClashes m now dropped begins carried → (past : List Taken) → begins past
+      → KeptAfter m past old (g.sets ++ left_of dropped now.set ∷ [])
+  chosen_rule goes clash past s =
+      let before = past ++ steps_by m old g.sets in
+      kept_after_on m past old (with_set now g.whole) g.sets (left_of dropped now.set) g.reports g.steps (g.rule past s)
+      (λ roomy. goes.next now.set before (with_set now g.whole) (g.carries past s roomy) (left_of dropped now.set)
+      (chosen_kept m now dropped (λ drop. clash past s drop before g.whole roomy (g.carries past s roomy))))
 
 -- where nothing was dropped
-no_drop : (m : Setting) (now : State) (begins : Type 0) (carried : Set → List Taken → State → Type 0)
+no_drop : (m : Setting) (now : State) (begins : List Taken → Type 0) (carried : Set → List Taken → State → Type 0)
     → DropClashes m now false begins carried
-no_drop m now begins carried s dropped = absurd (let f : false ≡ true = dropped in cc)
+no_drop m now begins carried past s dropped = absurd (let f : false ≡ true = dropped in cc)
 
 -- and goes
 pub going_on : (m : Setting) (old now new : State) (lost : Lost) (seen : Seen) (a b c : Counts) (told tells : Option (List ℕ))
-    (pages fills mid filled : ℕ) (notes_wanted : Bool) (notes_on notes_after : List Note → Type 0) (begins : Type 0)
+    (pages fills mid filled : ℕ) (notes_wanted : Bool) (notes_on notes_after : List Note → Type 0) (begins : List Taken → Type 0)
     (carried carried_then : Set → List Taken → State → Type 0)
     → (g : Going m old now a b told tells pages fills mid notes_wanted notes_on begins carried) → Goes m (eventful m now) lost seen new b c
     → new.step ≡ now.step + 1 → mid ≤ filled → CountsFills pages (len new.set) fills filled → (notes_wanted ≡ true → lost.reloaded ≡ false)
@@ -359,8 +365,8 @@ going_on m old now new lost seen a b c told tells pages fills mid filled notes_w
     let goes_here = chosen_first m now g.whole set ∙ r.went in
     let taken_so_far = steps_by m old g.sets in
     let t = step_taken (with_set now g.whole) set r.report (with_set new r.whole) in
-    let joined : steps_by m old (g.sets ++ set ∷ []) ≡ taken_so_far ++ t ∷ [] =
-    laws.joins m old (with_set now g.whole) (with_set new r.whole) g.sets set g.reports r.report g.steps goes_here in
+    let joined = λ (past : List Taken). past_joined past taken_so_far (steps_by m old (g.sets ++ set ∷ [])) t
+    (laws.joins m old (with_set now g.whole) (with_set new r.whole) g.sets set g.reports r.report g.steps goes_here) in
     let from : IsTakenFrom m (eventful m now) t = record { cpu = refl; ram = refl; went = goes_here; stepped = r.went } in
     let is : set_told notes (now.step + 1) r.whole ≡ left_of lost.after r.whole =
     told_more lost.after (now.step + 1) r.whole before up
@@ -385,11 +391,12 @@ going_on m old now new lost seen a b c told tells pages fills mid filled notes_w
       each_filled = filled_push pages fills filled g.sets set (filled_later pages fills mid filled g.sets rises g.each_filled)
           (enough_later pages (len set) fills mid filled rises
           (enough_chosen m old now a b told tells pages fills mid notes_wanted notes_on begins carried g lost.before));
-      rule = chosen_rule m old now a b told tells pages fills mid notes_wanted notes_on begins carried g lost.before laws goes over.clash;
-      carries = λ s roomy.
-          let then : Roomy (taken_so_far ++ t ∷ []) = subst Roomy joined roomy in
-          subst (λ (l : List Taken). carried_then new.set l (with_set new r.whole)) (sym joined)
-          (over.over s taken_so_far t then from refl (g.carries s (laws.known.before taken_so_far t then)));
+      rule = chosen_rule m old now a b told tells pages fills mid notes_wanted notes_on begins carried g lost.before goes over.clash;
+      carries = λ past s roomy.
+          let before = past ++ taken_so_far in
+          let then : Roomy (before ++ t ∷ []) = subst Roomy (joined past) roomy in
+          subst (λ (l : List Taken). carried_then new.set l (with_set new r.whole)) (sym (joined past))
+          (over.over past s before t then from refl (g.carries past s (laws.known.before before t then)));
       enough = enough;
       front = trace_of g.reports;
       trace = trace_join g.reports (r.report ∷ []) ∙ ap (λ (l : List Item). trace_of g.reports ++ l) (append-nil r.report.items ∙ r.items);
@@ -399,7 +406,7 @@ going_on m old now new lost seen a b c told tells pages fills mid filled notes_w
 
 -- its lines were put
 pub stepped_put : (m : Setting) (old now new : State) (seen : Seen) (a b : Counts) (told tells last : Option (List ℕ))
-    (pages fills filled : ℕ) (notes_wanted : Bool) (notes_on : List Note → Type 0) (begins : Type 0)
+    (pages fills filled : ℕ) (notes_wanted : Bool) (notes_on : List Note → Type 0) (begins : List Taken → Type 0)
     (carried : Set → List Taken → State → Type 0) → Stepped m old now new seen a b told tells pages fills filled notes_wanted
     notes_on begins carried
     → Appends tells last (lines_of (items_at now.step (whats seen))) → Going m old new a b told last pages fills filled notes_wanted
@@ -429,7 +436,7 @@ stepped_put m old now new seen a b told tells last pages fills filled notes_want
 
 -- or a front of them
 pub stepped_front : (m : Setting) (old now new : State) (seen : Seen) (a b : Counts) (told tells last : Option (List ℕ))
-    (pages fills filled : ℕ) (notes_wanted : Bool) (notes_on : List Note → Type 0) (begins : Type 0)
+    (pages fills filled : ℕ) (notes_wanted : Bool) (notes_on : List Note → Type 0) (begins : List Taken → Type 0)
     (carried : Set → List Taken → State → Type 0)
     → (s : Stepped m old now new seen a b told tells pages fills filled notes_wanted notes_on begins carried)
     → AppendsFront tells last (lines_of (items_at now.step (whats seen))) → AppendsFront told last (lines_of (trace_of s.reports))
@@ -462,11 +469,13 @@ none_held first last notes set h page is = absurd (let no : false ≡ true = sym
 
 -- all steps were done
 pub reached : (m : Setting) (bound : ℕ) (old now : State) (a b : Counts) (told tells : Option (List ℕ)) (pages fills filled : ℕ)
-    (notes_wanted : Bool) (notes_on : List Note → Type 0) (begins : Type 0) (carried : Set → List Taken → State → Type 0)
-    → Going m old now a b told tells pages fills filled notes_wanted notes_on begins carried → now.step ≡ bound → CarryLaws
-    → CarriesPast m carried
-    → SliceAs m bound old now a b told tells pages fills filled notes_wanted notes_on begins (Ok Reached)
-reached m bound old now a b told tells pages fills filled notes_wanted notes_on begins carried g n laws goes = record {
+    (notes_wanted : Bool) (notes_on : List Note → Type 0) (begins after : List Taken → Type 0)
+    (carried : Set → List Taken → State → Type 0)
+    → Going m old now a b told tells pages fills filled notes_wanted notes_on begins carried → now.step ≡ bound
+    → CarriesPast m carried → ((steps : List Taken) (whole : Set) → carried now.set steps (with_set now whole) → after steps)
+    → SliceAs m bound old now a b told tells pages fills filled notes_wanted notes_on
+    (record { before = begins; after = after }) (Ok Reached)
+reached m bound old now a b told tells pages fills filled notes_wanted notes_on begins after carried g n goes handed = record {
   sets = g.sets;
   reports = g.reports;
   last = with_set now g.whole;
@@ -485,22 +494,24 @@ reached m bound old now a b told tells pages fills filled notes_wanted notes_on 
   };
   tells_notes = g.tells_notes;
   each_filled = filled_push pages fills filled g.sets now.set g.each_filled g.enough;
-  kept = chosen_rule m old now a b told tells pages fills filled notes_wanted notes_on begins carried g false laws goes
+  kept = chosen_rule m old now a b told tells pages fills filled notes_wanted notes_on begins carried g false goes
       (no_drop m now begins carried);
-  left = λ s roomy. goes.left now.set (steps_by m old g.sets) (with_set now g.whole) (g.carries s roomy);
+  left = λ past s roomy. goes.left now.set (past ++ steps_by m old g.sets) (with_set now g.whole) (g.carries past s roomy);
+  carried = λ past s roomy. handed (past ++ steps_by m old g.sets) g.whole (g.carries past s roomy);
 }
 
 -- the next step stops
 pub stopped : (m : Setting) (bound : ℕ) (old now new : State) (lost : Lost) (stop : Stop) (a b : Counts) (told tells : Option (List ℕ))
-    (pages fills mid filled : ℕ) (notes_wanted : Bool) (notes_on notes_after : List Note → Type 0) (begins : Type 0)
+    (pages fills mid filled : ℕ) (notes_wanted : Bool) (notes_on notes_after : List Note → Type 0) (begins after : List Taken → Type 0)
     (carried : Set → List Taken → State → Type 0)
     → Going m old now a b told tells pages fills mid notes_wanted notes_on begins carried → StepHalts m (eventful m now) lost stop
-    → now.step < bound → new.step ≡ now.step → mid ≤ filled → CarryLaws → CarriesPast m carried
+    → now.step < bound → new.step ≡ now.step → mid ≤ filled → CarriesPast m carried
     → DropClashes m now lost.before begins carried
     → ((notes : List Note) → notes_on notes → notes_after (notes ++ emptied_if lost.before now.step))
-    → SliceAs m bound old new a b told tells pages fills filled notes_wanted notes_after begins (Ok (Stopped stop))
-stopped m bound old now new lost stop a b told tells pages fills mid filled notes_wanted notes_on notes_after begins carried g h lt still
-    rises laws goes clash on =
+    → SliceAs m bound old new a b told tells pages fills filled notes_wanted notes_after (record { before = begins; after = after })
+    (Ok (Stopped stop))
+stopped m bound old now new lost stop a b told tells pages fills mid filled notes_wanted notes_on notes_after begins after carried g h lt
+    still rises goes clash on =
     let set = left_of lost.before now.set in
     let notes = g.notes ++ emptied_if lost.before now.step in
     let told_set = chosen_told m old now a b told tells pages fills mid notes_wanted notes_on begins carried g lost.before in
@@ -530,18 +541,19 @@ stopped m bound old now new lost stop a b told tells pages fills mid filled note
       each_filled = filled_push pages fills filled g.sets set (filled_later pages fills mid filled g.sets rises g.each_filled)
           (enough_later pages (len set) fills mid filled rises
           (enough_chosen m old now a b told tells pages fills mid notes_wanted notes_on begins carried g lost.before));
-      kept = chosen_rule m old now a b told tells pages fills mid notes_wanted notes_on begins carried g lost.before laws goes clash;
-      left = λ s. tt;
+      kept = chosen_rule m old now a b told tells pages fills mid notes_wanted notes_on begins carried g lost.before goes clash;
+      left = λ past s. tt;
+      carried = λ past s. tt;
     }
 
 -- the lines of a step were not put
 pub failed : (m : Setting) (bound : ℕ) (old now new : State) (seen : Seen) (fault : Failed) (a b : Counts)
-    (told tells last : Option (List ℕ)) (pages fills filled : ℕ) (notes_wanted : Bool) (notes_on : List Note → Type 0) (begins : Type 0)
-    (carried : Set → List Taken → State → Type 0)
+    (told tells last : Option (List ℕ)) (pages fills filled : ℕ) (notes_wanted : Bool) (notes_on : List Note → Type 0)
+    (begins after : List Taken → Type 0) (carried : Set → List Taken → State → Type 0)
     → Stepped m old now new seen a b told tells pages fills filled notes_wanted notes_on begins carried
-    → AppendsFront tells last (lines_of (items_at now.step (whats seen))) → new.step ≤ bound → CarryLaws → CarriesPast m carried
-    → SliceAs m bound old new a b told last pages fills filled notes_wanted notes_on begins (Err fault)
-failed m bound old now new seen fault a b told tells last pages fills filled notes_wanted notes_on begins carried s put le laws goes =
+    → AppendsFront tells last (lines_of (items_at now.step (whats seen))) → new.step ≤ bound → CarriesPast m carried
+    → SliceAs m bound old new a b told last pages fills filled notes_wanted notes_on (record { before = begins; after = after }) (Err fault)
+failed m bound old now new seen fault a b told tells last pages fills filled notes_wanted notes_on begins after carried s put le goes =
     record {
       sets = s.sets;
       reports = s.reports;
@@ -561,9 +573,10 @@ failed m bound old now new seen fault a b told tells last pages fills filled not
       };
       tells_notes = s.tells_notes;
       each_filled = filled_push pages fills filled s.sets new.set s.each_filled s.enough;
-      kept = λ b. laws.rule m old (with_set new s.whole) s.sets new.set s.reports s.steps (s.rule b)
-          (λ roomy. goes.next new.set (steps_by m old s.sets) (with_set new s.whole) (s.carries b roomy) new.set (inl refl));
-      left = λ b. tt;
+      kept = λ past b. kept_after_on m past old (with_set new s.whole) s.sets new.set s.reports s.steps (s.rule past b)
+          (λ roomy. goes.next new.set (past ++ steps_by m old s.sets) (with_set new s.whole) (s.carries past b roomy) new.set (inl refl));
+      left = λ past b. tt;
+      carried = λ past b. tt;
     }
 
 abbrev pub counted : ℕ → ℕ → Counts

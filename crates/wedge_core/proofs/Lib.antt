@@ -13,8 +13,10 @@ pub mod Joined
 pub mod SlicedBy
 pub mod RanBy
 pub mod AnsweredBy
+pub mod AfterPast
 pub mod Passed
 pub mod Going
+pub mod WithSet
 pub mod CarriedOver
 pub mod Tried
 pub mod Asked

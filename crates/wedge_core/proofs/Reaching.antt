@@ -1,6 +1,5 @@
 -- A page that a step was granted and that is kept is reached by the host.
 use Rattle.std.proofs.Common.{◌≡◌, ℕ, ◌/◌, ◌≤◌, ◌<◌, ◌^◌, Bool, true, false, ◌&&◌, not, List, length, Option, Some, None, refl, sym, ap, ◌∙◌, cond, inl, inr}
-use Rattle.std.specs.Prelude.{nat_le}
 use Rattle.std.specs.List.{Contains}
 use Rattle.std.specs.FinMap.{get}
 use Rattle.paging.specs.declared.entry.Entry.{Entry}

@@ -1,10 +1,18 @@
 -- A guest whose present tables begin anew.
-use Rattle.std.proofs.Common.{◌≡◌, ℕ, ◌<◌, ◌^◌, List, length, None, sym, subst, ◌∙◌, arith}
+use Rattle.std.proofs.Common.{◌≡◌, ℕ, ◌<◌, ◌≤◌, ◌^◌, true, false, List, [], ◌∷◌, length, length-append, None, refl, sym, ap, subst, ◌∙◌, arith}
 use Rattle.std.specs.FinMap.{empty}
 use Rattle.frame_pool.specs.declared.Pool.{Pool}
 use Rattle.frame_pool.specs.Held.{Owns, Moves}
 use Rattle.image_check.specs.Image.{Image}
 use Rattle.shadow_tables.specs.Entries.{entries_of}
+use Rattle.shadow_tables.specs.Laws.Openings.{held-count}
+use Rattle.shadow_tables.specs.OtherRoot.{AreSame, OtherRoot}
+use Rattle.shadow_tables.specs.Sight.{StaysBeside, sight}
+use Rattle.shadow_tables.specs.Slots.{held}
+use Rattle.shadow_cache.specs.Laws.{frames-cons}
+use Rattle.shadow_cache.specs.OtherRoots.{other_roots_of}
+use Rattle.shadow_cache.specs.Pairs.{frames_of}
+use Rattle.shadow_cache.specs.declared.pair.Pair.{Pair}
 use Rattle.shadow_cache.specs.Views as roots
 use Rattle.wedge_core.specs.OfRoots.{of_roots}
 use Rattle.shadow_cache.specs.declared.roots.Roots.{Roots}
@@ -12,7 +20,32 @@ use Rattle.machine_model.specs.State.{Setting}
 use Rattle.wedge_step.specs.Standing.{IsHeld, ground, state_of}
 use Rattle.wedge_step.specs.declared.running.Running.{Running}
 use Rattle.wedge_step.proofs.Memories.{front_same, shown_same}
+use Rattle.wedge_core.specs.Starts.{IsAsNew}
 use Rattle.wedge_core.proofs.Released.{held_on}
+
+-- where two frames are held they are the roots of the present views, and there are no others
+none_beside : (p : Pair) (ps : List Pair) (m : List ℕ) → length (frames_of (p ∷ ps) m) ≤ 2 → ps ≡ []
+none_beside p [] m few = refl
+none_beside p (q ∷ ps) m few =
+    let here = ap (λ (l : List ℕ). length l) (frames-cons p (q ∷ ps) m) ∙ length-append (held p.shadow m) (frames_of (q ∷ ps) m) in
+    let next = ap (λ (l : List ℕ). length l) (frames-cons q ps m) ∙ length-append (held q.shadow m) (frames_of ps m) in
+    let two = held-count p.shadow m in
+    let more = held-count q.shadow m in
+    absurd (omega (arith, few, here, next, two, more))
+
+pub others_alone : (r : Roots) (m : List ℕ) → length (roots.frames r m) ≤ 2 → roots.other_roots r m ≡ []
+others_alone r m few = ap (λ (ps : List Pair). other_roots_of ps m) (none_beside r.present r.others m few)
+
+-- so nothing stays beside what is as new
+pub anew_beside : (r s : Roots) (m m' : List ℕ) → length (roots.frames r m) ≤ 2 → IsAsNew of_roots s m'
+    → StaysBeside (sight of_roots r m) (sight of_roots s m')
+anew_beside r s m m' few anew = record {
+  notes = λ frame e. absurd (let no : false ≡ true = sym (anew.unnoted frame) ∙ e in cc);
+  marks = λ e. absurd (let no : false ≡ true = sym anew.unmarked ∙ e in cc);
+  others =
+      subst (λ (l : List OtherRoot). AreSame l (roots.other_roots s m')) (sym (others_alone r m few))
+      (subst (AreSame []) (sym anew.alone) tt);
+}
 
 -- it is held as before
 pub held_anew : (image : Image) (frames : ℕ) (g : Running Roots) (s : Roots) (p p' : Pool) (m m' : List ℕ) → g.held ≡ 2

@@ -35,7 +35,8 @@ use Rattle.wedge_core.specs.Promises.{HasMemory, Promise, HasFills, HasOwnFills,
 use Rattle.wedge_core.specs.Guests.{HasGuest}
 use Rattle.wedge_core.proofs.AnsweredBy.{WedgeAnswers}
 use Rattle.run_trace.specs.Pauses.{end_of, IfReached}
-use Rattle.wedge_core.specs.Slices.{Counts, PausesAs}
+use Rattle.wedge_core.specs.Slices.{Counts, Knowing, PausesAs}
+use Rattle.wedge_core.proofs.AfterPast.{kept_first}
 use Rattle.wedge_core.proofs.SlicedBy.{SliceAs}
 use Rattle.wedge_step.specs.Standing.{IsHeld, ground, state_of}
 use Rattle.wedge_step.specs.Filled.{CountsFills}
@@ -113,11 +114,11 @@ kept_by law m n old last new sets end (Stopped stop) h k = k
 
 -- the slice that ended is a run
 abbrev pub promised : KeptBefore → (m : Setting) (n pool : ℕ) (old new : State) (before after : Counts) (told tells : Option (List ℕ))
-    (pages fills filled : ℕ) (notes_wanted : Bool) (notes_on : List Note → Type 0) (begins : Type 0) (pause : Pause) (memory : List ℕ)
-    → old ≡ boot m → (pool ≡ 512 → begins) → IfReached (Ok pause) (take (4096 * m.frames) memory ≡ with_patches m.image new.ram)
-    → (h : SliceAs m n old new before after told tells pages fills filled notes_wanted notes_on begins (Ok pause))
+    (pages fills filled : ℕ) (notes_wanted : Bool) (notes_on : List Note → Type 0) (knows : Knowing) (pause : Pause) (memory : List ℕ)
+    → old ≡ boot m → (pool ≡ 512 → knows.before []) → IfReached (Ok pause) (take (4096 * m.frames) memory ≡ with_patches m.image new.ram)
+    → (h : SliceAs m n old new before after told tells pages fills filled notes_wanted notes_on knows (Ok pause))
     → Promise m n pool (lines_of (trace_of h.reports) ++ end_line new.step (end_of pause)) new.step (end_of pause) before after memory
-promised law m n pool old new before after told tells pages fills filled notes_wanted notes_on begins pause memory is from has h = record {
+promised law m n pool old new before after told tells pages fills filled notes_wanted notes_on knows pause memory is from has h = record {
   sets = h.sets;
   reports = h.reports;
   last = h.last;
@@ -131,18 +132,18 @@ promised law m n pool old new before after told tells pages fills filled notes_w
   memory_is = memory_by m n h.last new h.end pause memory has h.ends;
   kept =
       λ all. subst (λ (b : State). Kept m b (h.sets ++ stopping m n h.last (end_of pause) (ends_by m n h.last new h.end pause h.ends))) is
-      (kept_by law m n old h.last new h.sets h.end pause h.ends (h.kept (from all)));
+      (kept_by law m n old h.last new h.sets h.end pause h.ends (kept_first m old (h.sets ++ h.end ∷ []) (h.kept [] (from all))));
 }
 
 -- the set at its end
-end_is : (m : Setting) (n pool : ℕ) (old last new : State) (sets : List Set) (end : Set) (begins : Type 0) (pause : Pause)
-    (h : PausesAs m n last new end (Ok pause)) → old ≡ boot m → (pool ≡ 512 → begins)
-    → (begins → IfReached (Ok pause) (Roomy (steps_by m old sets) → IsLeftBehind m (steps_by m old sets) last end))
+end_is : (m : Setting) (n pool : ℕ) (old last new : State) (sets : List Set) (end : Set) (knows : Knowing) (pause : Pause)
+    (h : PausesAs m n last new end (Ok pause)) → old ≡ boot m → (pool ≡ 512 → knows.before [])
+    → (knows.before [] → IfReached (Ok pause) (Roomy (steps_by m old sets) → IsLeftBehind m (steps_by m old sets) last end))
     → IsEnd m n pool sets last (end_of pause) (ends_by m n last new end pause h) end
 unfolding ends_by
-end_is m n pool old last new sets end begins Reached h is from left =
+end_is m n pool old last new sets end knows Reached h is from left =
     λ all. subst (λ (b : State). Roomy (steps_by m b sets) → IsLeftBehind m (steps_by m b sets) last end) is (left (from all))
-end_is m n pool old last new sets end begins (Stopped stop) h is from left = refl
+end_is m n pool old last new sets end knows (Stopped stop) h is from left = refl
 
 -- a slice that pauses could go on
 allowed_by : (m : Setting) (n : ℕ) (last new : State) (end : Set) (pause : Pause) → PausesAs m n last new end (Ok pause)
@@ -152,11 +153,11 @@ allowed_by m n last new end (Stopped stop) h = h.2
 
 -- and what was filled in it
 pub has_fills : (m : Setting) (n : ℕ) (old new : State) (before after : Counts) (told tells : Option (List ℕ)) (pages fills filled : ℕ)
-    (notes_wanted : Bool) (notes_on : List Note → Type 0) (begins : Type 0) (pause : Pause)
+    (notes_wanted : Bool) (notes_on : List Note → Type 0) (knows : Knowing) (pause : Pause)
     → pages ≡ 0 → fills ≡ 0 → filled ≤ 128 * new.step
-    → (h : SliceAs m n old new before after told tells pages fills filled notes_wanted notes_on begins (Ok pause))
+    → (h : SliceAs m n old new before after told tells pages fills filled notes_wanted notes_on knows (Ok pause))
     → HasFills m h.sets h.last filled
-has_fills m n old new before after told tells pages fills filled notes_wanted notes_on begins pause first none few h = record {
+has_fills m n old new before after told tells pages fills filled notes_wanted notes_on knows pause first none few h = record {
   end = h.end;
   allowed = allowed_by m n h.last new h.end pause h.ends;
   enough = All-weaker (λ (set : Set). CountsFills pages (len set) fills filled) (λ (set : Set). len set ≤ filled)
@@ -166,14 +167,14 @@ has_fills m n old new before after told tells pages fills filled notes_wanted no
 }
 
 pub has_own : (m : Setting) (n pool : ℕ) (old new : State) (before after : Counts) (told tells : Option (List ℕ)) (pages fills filled : ℕ)
-    (notes_wanted : Bool) (notes_on : List Note → Type 0) (begins : Type 0) (pause : Pause)
-    → old ≡ boot m → (pool ≡ 512 → begins) → pages ≡ 0 → fills ≡ 0 → filled ≤ 128 * new.step
-    → (h : SliceAs m n old new before after told tells pages fills filled notes_wanted notes_on begins (Ok pause))
+    (notes_wanted : Bool) (notes_on : List Note → Type 0) (knows : Knowing) (pause : Pause)
+    → old ≡ boot m → (pool ≡ 512 → knows.before []) → pages ≡ 0 → fills ≡ 0 → filled ≤ 128 * new.step
+    → (h : SliceAs m n old new before after told tells pages fills filled notes_wanted notes_on knows (Ok pause))
     → HasOwnFills m n pool h.sets h.last (end_of pause) (ends_by m n h.last new h.end pause h.ends) filled
 unfolding has_fills
-has_own m n pool old new before after told tells pages fills filled notes_wanted notes_on begins pause is from first none few h = record {
-  filled = has_fills m n old new before after told tells pages fills filled notes_wanted notes_on begins pause first none few h;
-  own = end_is m n pool old h.last new h.sets h.end begins pause h.ends is from h.left;
+has_own m n pool old new before after told tells pages fills filled notes_wanted notes_on knows pause is from first none few h = record {
+  filled = has_fills m n old new before after told tells pages fills filled notes_wanted notes_on knows pause first none few h;
+  own = end_is m n pool old h.last new h.sets h.end knows pause h.ends is from (h.left []);
 }
 
 pub given_by : (m : Setting) (n pool : ℕ) (text : List ℕ) (count : ℕ) (end : End) (before after : Counts) (memory : List ℕ)
@@ -183,23 +184,24 @@ given_by m n pool text count end before after memory p =
 
 -- all lines and the last one were put
 pub whole_put : KeptBefore → (image : Image) (script : Events) (frames n pool : ℕ) (old new : State) (counts counts_after : Counts)
-    (a b c : Option (List ℕ)) (pages fills filled : ℕ) (notes_wanted : Bool) (notes_on : List Note → Type 0) (begins : Type 0)
+    (a b c : Option (List ℕ)) (pages fills filled : ℕ) (notes_wanted : Bool) (notes_on : List Note → Type 0) (knows : Knowing)
     (pause : Pause) (before mid now : ℕ) (memory : List ℕ)
-    → need image ≤ frames → old ≡ boot (wedge image script frames) → (pool ≡ 512 → begins) → pages ≡ 0 → fills ≡ 0 → filled ≤ 128 * new.step
+    → need image ≤ frames → old ≡ boot (wedge image script frames) → (pool ≡ 512 → knows.before []) → pages ≡ 0 → fills ≡ 0
+    → filled ≤ 128 * new.step
     → IfReached (Ok pause) (take (4096 * frames) memory ≡ with_patches image new.ram)
     → IfReached (Ok pause) (Standing (wedge image script frames) new filled memory)
-    → (h : SliceAs (wedge image script frames) n old new counts counts_after a b pages fills filled notes_wanted notes_on begins (Ok pause))
+    → (h : SliceAs (wedge image script frames) n old new counts counts_after a b pages fills filled notes_wanted notes_on knows (Ok pause))
     → Appends b c (end_line new.step (end_of pause)) → mid ≡ before → now ≡ mid
     → WedgeAnswers image script frames n pool a c before now counts counts_after memory
     (Ok (record { steps = new.step; end = end_of pause; fills = filled }))
 unfolding has_own has_fills
-whole_put law image script frames n pool old new counts counts_after a b c pages fills filled notes_wanted notes_on begins pause before mid
+whole_put law image script frames n pool old new counts counts_after a b c pages fills filled notes_wanted notes_on knows pause before mid
     now memory fits is from first none few has stands h put same more = (
       lines_of (trace_of h.reports) ++ end_line new.step (end_of pause),
-      promised law (wedge image script frames) n pool old new counts counts_after a b pages fills filled notes_wanted notes_on begins pause
+      promised law (wedge image script frames) n pool old new counts counts_after a b pages fills filled notes_wanted notes_on knows pause
           memory is from has h,
       fits,
-      has_own (wedge image script frames) n pool old new counts counts_after a b pages fills filled notes_wanted notes_on begins pause is
+      has_own (wedge image script frames) n pool old new counts counts_after a b pages fills filled notes_wanted notes_on knows pause is
           from first none few h,
       appends_both a b c _ _ h.text put,
       more ∙ same,
@@ -208,14 +210,14 @@ whole_put law image script frames n pool old new counts counts_after a b c pages
 
 -- all lines and a front of the last one
 pub whole_unput : KeptBefore → (image : Image) (script : Events) (frames n pool : ℕ) (old new : State) (counts counts_after : Counts)
-    (a b c : Option (List ℕ)) (pages fills filled : ℕ) (notes_wanted : Bool) (notes_on : List Note → Type 0) (begins : Type 0)
+    (a b c : Option (List ℕ)) (pages fills filled : ℕ) (notes_wanted : Bool) (notes_on : List Note → Type 0) (knows : Knowing)
     (pause : Pause) (before mid now : ℕ) (memory : List ℕ)
     → need image ≤ frames → old ≡ boot (wedge image script frames)
     → IfReached (Ok pause) (take (4096 * frames) memory ≡ with_patches image new.ram)
-    → (h : SliceAs (wedge image script frames) n old new counts counts_after a b pages fills filled notes_wanted notes_on begins (Ok pause))
+    → (h : SliceAs (wedge image script frames) n old new counts counts_after a b pages fills filled notes_wanted notes_on knows (Ok pause))
     → AppendsFront b c (end_line new.step (end_of pause)) → mid ≡ before → Rose mid now
     → WedgeAnswers image script frames n pool a c before now counts counts_after memory (Err fault.Write)
-whole_unput law image script frames n pool old new counts counts_after a b c pages fills filled notes_wanted notes_on begins pause before
+whole_unput law image script frames n pool old new counts counts_after a b c pages fills filled notes_wanted notes_on knows pause before
     mid now memory fits is has h put same rose =
     let text = lines_of (trace_of h.reports) ++ end_line new.step (end_of pause) in (
       text,
@@ -223,7 +225,7 @@ whole_unput law image script frames n pool old new counts counts_after a b c pag
       end_of pause,
       fits,
       given_by (wedge image script frames) n 0 text new.step (end_of pause) counts counts_after memory
-          (promised law (wedge image script frames) n 0 old new counts counts_after a b pages fills filled notes_wanted notes_on begins
+          (promised law (wedge image script frames) n 0 old new counts counts_after a b pages fills filled notes_wanted notes_on knows
           pause memory is (λ none. absurd (omega (arith, none))) has h),
       front_of a b c (lines_of (trace_of h.reports)) (end_line new.step (end_of pause)) [] _ h.text put
           (ap (λ (l : List ℕ). lines_of (trace_of h.reports) ++ l) (sym (append-nil (end_line new.step (end_of pause))))),
@@ -232,12 +234,12 @@ whole_unput law image script frames n pool old new counts counts_after a b c pag
 
 -- a front of the lines
 pub whole_front : (image : Image) (script : Events) (frames n pool : ℕ) (old new : State) (counts counts_after : Counts)
-    (a b : Option (List ℕ)) (pages fills filled : ℕ) (notes_wanted : Bool) (notes_on : List Note → Type 0) (begins : Type 0)
+    (a b : Option (List ℕ)) (pages fills filled : ℕ) (notes_wanted : Bool) (notes_on : List Note → Type 0) (knows : Knowing)
     (failed : Failed) (before now : ℕ) (memory : List ℕ)
     → need image ≤ frames → old ≡ boot (wedge image script frames) → SliceAs (wedge image script frames) n old new counts counts_after a b
-    pages fills filled notes_wanted notes_on begins (Err failed) → Rose before now
+    pages fills filled notes_wanted notes_on knows (Err failed) → Rose before now
     → WedgeAnswers image script frames n pool a b before now counts counts_after memory (Err fault.Write)
-whole_front image script frames n pool old new counts counts_after a b pages fills filled notes_wanted notes_on begins failed before now
+whole_front image script frames n pool old new counts counts_after a b pages fills filled notes_wanted notes_on knows failed before now
     memory fits is h rose =
     let m = wedge image script frames in
     let e = each_ends m n h.last h.ends in (

@@ -1,5 +1,5 @@
 -- What the calls of a guest ask for and promise, over its scene.
-use Rattle.std.specs.Prelude.{◌≡◌, ℕ, ◌+◌, ◌*◌, ◌%◌, ◌≤◌, ◌<◌, ◌^◌, List, [], length, take, None, Result}
+use Rattle.std.specs.Prelude.{◌≡◌, ℕ, ◌+◌, ◌*◌, ◌%◌, ◌≤◌, ◌<◌, ◌^◌, Bool, List, [], length, take, None, Result}
 use Rattle.std.specs.FinMap.{empty}
 use Rattle.guest_ram.specs.Bytes.{part}
 use Rattle.ia32_types.specs.declared.addresses.TheConstants.{TEXT_FRAME, TEXT_PLACE}
@@ -15,6 +15,7 @@ use Rattle.pv_io.specs.declared.answer.Failed.{Failed}
 use Rattle.run_trace.specs.Pauses.{IfReached}
 use Rattle.run_trace.specs.declared.pause.Pause.{Pause}
 use Rattle.shadow_cache.specs.declared.roots.Roots.{Roots}
+use Rattle.shadow_tables.specs.Sight.{StaysBeside, sight}
 use Rattle.machine_model.specs.State.{Setting, State, wedge}
 use Rattle.wedge_step.specs.Filled.{WereFilled}
 use Rattle.wedge_step.specs.Pools.{Keeps}
@@ -61,6 +62,9 @@ pub record BeginsSlice (old new : Scene Roots) : Type 0 where
   pub keeps : Keeps old.pool new.pool old.memory new.memory (frames_in of_roots old) (frames_in of_roots new)
   pub fewer : kept_in of_roots new ≤ kept_in of_roots old
   pub anew : old.guest.held ≡ 2 → IsAsNew of_roots new.guest.shadows new.memory
+  pub beside : StaysBeside (sight of_roots old.guest.shadows old.memory) (sight of_roots new.guest.shadows new.memory)
+  pub tables : (indices : ℕ → Bool) → of_roots.has_tables_under old.guest.shadows old.memory indices
+      → of_roots.has_tables_under new.guest.shadows new.memory indices
 
 -- After a slice: where all steps were done the front of the host's memory is the guest's, with the text patched. However the
 -- slice ended its frames are its own, and no more pages are kept than were filled, if that was so before.

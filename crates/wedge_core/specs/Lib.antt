@@ -2,6 +2,7 @@ pub mod Noted
 pub mod Views
 pub mod ViewLaws
 pub mod Counts
+pub mod KeptAfter
 pub mod Slices
 pub mod Stepping
 pub mod Starts

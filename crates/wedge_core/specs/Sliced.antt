@@ -1,5 +1,5 @@
 -- What a slice leaves of a guest's scene, of the sink and of the notes.
-use Rattle.std.specs.Prelude.{◌≡◌, ℕ, ◌+◌, ◌*◌, ◌≤◌, [], length, Bool, false, Result, OnOk, OnErr}
+use Rattle.std.specs.Prelude.{◌≡◌, ◌⊎◌, ℕ, ◌*◌, ◌≤◌, List, [], length, Bool, false, Result, OnOk, OnErr}
 use Rattle.shadow_tables.specs.declared.shadows.Shadows as shadows
 use Rattle.board.specs.Scripts.{Events}
 use Rattle.host_cpl3.specs.declared.host.Host as hosts
@@ -11,6 +11,9 @@ use Rattle.pv_io.specs.declared.sink.Sink as sinks
 use Rattle.run_trace.specs.Pauses.{IfReached}
 use Rattle.run_trace.specs.declared.notes.Notes as notes
 use Rattle.run_trace.specs.declared.pause.Pause.{Pause}
+use Rattle.machine_model.specs.Keeping.{Roomy}
+use Rattle.machine_model.specs.Taken.{Taken}
+use Rattle.wedge_step.specs.Carried.{IsCarried}
 use Rattle.wedge_step.specs.Filled.{CountsFills}
 use Rattle.wedge_step.specs.Leaves.{IsCarriedIn}
 use Rattle.wedge_step.specs.Pools.{Keeps}
@@ -19,7 +22,7 @@ use Rattle.wedge_step.specs.Standing.{IsAble, ground}
 use Rattle.wedge_core.specs.Noted.{NotesOn}
 use Rattle.wedge_core.specs.Scenes.{IsHeldIn, IsReadyIn}
 use Rattle.wedge_core.specs.Counts.{counts_of}
-use Rattle.wedge_core.specs.Slices.{BeginsEmpty, Noting, Outward, SliceAs}
+use Rattle.wedge_core.specs.Slices.{BeginsEmpty, Knowing, Noting, Outward, SliceAs}
 
 abbrev pub outward : {H O : Type 0} → hosts.Ghosts H → sinks.Ghosts O → H → H → O → O → Outward
 outward h o host host2 out out2 = record { before = counts_of h host; after = counts_of h host2; told = o.taken out; tells = o.taken out2 }
@@ -38,22 +41,32 @@ pub record FaultsOf (old new : ℕ) (result : Result Pause Failed) : Type 0 wher
   pub cause : OnErr result (Rose old new)
 
 module _ {S : Type 0} (g : shadows.Ghosts S) where
-  -- Steps under the monitor's rules lead from the one scene to the other. Where the slice begins so, its sets keep the rule for
-  -- kept translations.
-  abbrev pub SliceIn : Setting → ℕ → Scene S → Scene S → Outward → Noting → Type 0 → Result Pause Failed → Type 0
+  -- what is known after some steps, where the slice begins so after them; and all that is carried on after its own
+  abbrev pub knowing : Setting → Scene S → (List Taken → Type 0) → Knowing
+  knowing m new begins =
+      record { before = begins; after = λ steps. IsCarried g m steps (state_in g m new) new.guest.shadows new.memory }
+
+  -- Steps under the monitor's rules lead from the one scene to the other. Where the slice begins so after some steps, its sets
+  -- keep the rule for kept translations.
+  abbrev pub SliceIn : Setting → ℕ → Scene S → Scene S → Outward → Noting → (List Taken → Type 0) → Result Pause Failed → Type 0
   SliceIn m bound old new out told begins result =
       SliceAs m bound (state_in g m old) (state_in g m new) out
-      (record { pages = kept_in g old; fills = old.guest.fills; filled = new.guest.fills }) told begins result
+      (record { pages = kept_in g old; fills = old.guest.fills; filled = new.guest.fills }) told (knowing m new begins) result
 
-  -- with all known of what is kept, ample frames, and no notes wanted
-  abbrev pub BeginsCarried : Image → Events → Scene S → Bool → Type 0
-  BeginsCarried image script c notes_wanted =
-      IsCarriedIn g image script [] (state_in g (wedge image script c.guest.frames) c) c × AreAmple (free c) c.guest.held
-      × (notes_wanted ≡ false)
+  -- after these steps, with all known of what is kept while the run is roomy, ample frames, and no notes wanted
+  abbrev pub BeginsCarried : Image → Events → Scene S → Bool → List Taken → Type 0
+  BeginsCarried image script c notes_wanted past =
+      (Roomy past → IsCarriedIn g image script past (state_in g (wedge image script c.guest.frames) c) c)
+      × AreAmple (free c) c.guest.held × (notes_wanted ≡ false)
 
   -- with nothing kept, two frames held and ample ones free, and no notes wanted
   abbrev pub BeginsBare : Scene S → Bool → Type 0
   BeginsBare c notes_wanted = BeginsEmpty (set_in g c) (free c) c.guest.held notes_wanted
+
+  -- so with no steps before, or in the other way after any
+  abbrev pub BeginsKnown : Image → Events → Scene S → Bool → List Taken → Type 0
+  BeginsKnown image script c notes_wanted past =
+      ((past ≡ []) × BeginsBare c notes_wanted) ⊎ BeginsCarried image script c notes_wanted past
 
   -- Where all steps were done the guest can go on. However the slice ended its shadows stand, over the frames of the pool that
   -- are its own, and each other frame that was out is out and as it was.

@@ -13,7 +13,7 @@ ghost use Rattle.wedge_core.specs.Calls.{Adopts, BeginsSlice, GuestLeaves, MayAd
 ghost use Rattle.wedge_core.specs.Counts.{counts_of};
 ghost use Rattle.wedge_core.specs.OfRoots.{of_roots};
 ghost use Rattle.wedge_core.specs.Scenes.{IsHeldIn, IsReadyIn};
-ghost use Rattle.wedge_core.specs.Sliced.{BeginsBare, FaultsOf, SliceIn, SliceLeaves, StaysSilent, noting, outward};
+ghost use Rattle.wedge_core.specs.Sliced.{BeginsKnown, FaultsOf, SliceIn, SliceLeaves, StaysSilent, noting, outward};
 ghost use Rattle.wedge_core.specs.Starts.{StartedAs};
 ghost use Rattle.wedge_core.specs.Stepped.{CountsNone};
 
@@ -123,7 +123,7 @@ impl Guest {
         ensures slice { SliceIn of_roots (wedge image.now script.now.list self.old.frames) (self.old.step + k)
             (scene self.old pool.old (H.bytes host.old)) (scene self.new pool.new (H.bytes host.new))
             (outward H.Host O.Sink host.old host.new out.old out.new) (noting L.Notes notes.old notes.new)
-            (BeginsBare of_roots (scene self.old pool.old (H.bytes host.old)) (L.wants notes.old)) result }
+            (BeginsKnown of_roots image.now script.now.list (scene self.old pool.old (H.bytes host.old)) (L.wants notes.old)) result }
         ensures leaves { SliceLeaves of_roots image.now (self.old.step + k) (scene self.old pool.old (H.bytes host.old))
             (scene self.new pool.new (H.bytes host.new)) result }
         ensures own { GuestLeaves image.now script.now.list (scene self.old pool.old (H.bytes host.old))

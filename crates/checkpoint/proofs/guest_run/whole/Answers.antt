@@ -1,4 +1,4 @@
-use Rattle.std.proofs.Common.{◌≡◌, ◌+◌, ◌-◌, arith}
+use Rattle.std.proofs.Common.{◌≡◌, ◌+◌, ◌-◌, inl, refl, arith}
 use Rattle.checkpoint.proofs.Continuing.{went_on, went_unput, went_front}
 use Rattle.checkpoint.proofs.GuestRests.{at_bound}
 use Rattle.checkpoint.proofs.guest_run.whole.Goals as goal
@@ -26,9 +26,9 @@ returns-in-Ok-put_end g c =
     let is : c.args.guest.now.step + (c.args.n - c.step.result) ≡ c.args.n = omega (arith, asked, c.requires.begun) in
     let memory = g.H.Host.bytes c.slice.new.host in
     record {
-      whole = went_on c.kept_on.ensures.before c.requires.bare _ c.in-Ok.pause _ (g.O.Sink.faults c.slice.new.out) _ memory c.step-2.result
+      whole = went_on c.kept_on.ensures.before _ c.in-Ok.pause _ (g.O.Sink.faults c.slice.new.out) _ memory c.step-2.result
           c.end_of.result c.fills.result c.fills.ensures
           c.requires.filled c.in-Ok.ensures.leaves.few c.step-2.ensures c.end_of.ensures
-          c.in-Ok.ensures.own.memory (at_bound _ c.args.n _ is c.in-Ok.ensures.slice) c.in-Ok-put_end.ensures.ok c.in-Ok.ensures.faults.kept
-          c.in-Ok-put_end.ensures.kept;
+          c.in-Ok.ensures.own.memory (at_bound _ c.args.n _ is c.in-Ok.ensures.slice) (inl (refl, c.requires.bare))
+          c.in-Ok-put_end.ensures.ok c.in-Ok.ensures.faults.kept c.in-Ok-put_end.ensures.kept;
     }

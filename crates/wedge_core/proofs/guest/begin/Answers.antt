@@ -2,6 +2,8 @@ use Rattle.std.proofs.Common.{◌≡◌, ℕ, ◌≤◌, false, List, refl, sym,
 use Rattle.std.specs.FinMap.{empty}
 use Rattle.frame_pool.specs.Held.{Moves}
 use Rattle.shadow_tables.specs.Entries.{entries_of}
+use Rattle.shadow_tables.specs.Sight.{StaysBeside, sight}
+use Rattle.shadow_tables.proofs.OtherRoots.{same-refl}
 use Rattle.shadow_cache.specs.Views as roots
 use Rattle.wedge_core.specs.OfRoots.{of_roots}
 use Rattle.wedge_step.specs.Filled.{pages_kept}
@@ -11,7 +13,7 @@ use Rattle.wedge_step.specs.Standing.{IsHeld, ground, state_of}
 use Rattle.wedge_core.specs.Starts.{IsAsNew}
 use Rattle.wedge_step.proofs.Keeping.{keeps_moves, keeps_same}
 use Rattle.wedge_step.proofs.Readying.{none_ready, none_pages}
-use Rattle.wedge_core.proofs.Renewed.{held_anew, state_anew}
+use Rattle.wedge_core.proofs.Renewed.{anew_beside, held_anew, state_anew}
 use Rattle.wedge_core.proofs.guest.begin.Goals as goal
 
 pub returns-clause-begins : goal.returns-clause-begins
@@ -74,6 +76,24 @@ returns-clause-begins g c = record {
         alone = d.ensures.other_roots;
         unopened = d.ensures.has_tables_under;
       });
+  beside =
+      let old = c.args.running.now in
+      let d = c.renew in
+      let h = c.requires.held.1 in
+      let count = h.counted in
+      let two : old.held ≡ 2 = omega (arith, c.if-not-bare.false) in
+      subst (λ (l : List ℕ). StaysBeside (sight of_roots old.shadows (g.H.Host.bytes c.args.host.now)) (sight of_roots d.new.self l))
+      (sym (g.met.H.Host.bytes_changed c.args.host.now d.new.ram))
+      (anew_beside old.shadows d.new.self (g.H.Host.bytes c.args.host.now) d.new.ram (omega (arith, count, two)) (record {
+        unnoted = d.ensures.known.read_from;
+        unmarked = d.ensures.known.stale;
+        alone = d.ensures.other_roots;
+        unopened = d.ensures.has_tables_under;
+      }));
+  tables = λ indices opened.
+      let d = c.renew in
+      subst (λ (l : List ℕ). of_roots.has_tables_under d.new.self l indices) (sym (g.met.H.Host.bytes_changed c.args.host.now d.new.ram))
+      (d.ensures.has_tables_under indices);
 }
 
 pub returns-clause-counts : goal.returns-clause-counts
@@ -92,6 +112,12 @@ returns-then-not-bare-clause-begins g c = record {
       (roots.frames c.args.running.now.shadows (g.H.Host.bytes c.args.host.now));
   fewer = omega arith;
   anew = λ two. absurd (let some = c.if-not-bare.true in omega (arith, some, two));
+  beside = record {
+    notes = λ frame e. e;
+    marks = λ e. e;
+    others = same-refl (roots.other_roots c.args.running.now.shadows (g.H.Host.bytes c.args.host.now));
+  };
+  tables = λ indices opened. opened;
 }
 
 pub returns-then-not-bare-clause-counts : goal.returns-then-not-bare-clause-counts

@@ -1,4 +1,4 @@
-use Rattle.std.proofs.Common.{◌==◌, sym, ap, subst, ◌∙◌, arith}
+use Rattle.std.proofs.Common.{◌==◌, sym, subst, ◌∙◌, arith}
 use Rattle.std.specs.Prelude.{IfOk, IfSome, Option, Result}
 use Rattle.ia32_types.specs.declared.stop.Stop.{Stop}
 use Rattle.machine_model.specs.UsedPages.{Uses}

@@ -1,12 +1,12 @@
-use Rattle.std.proofs.Common.{◌≡◌, ℕ, ◌+◌, false, List, length, Ok, Err, refl, sym, subst, ap, arith}
+use Rattle.std.proofs.Common.{◌≡◌, inl, ℕ, ◌+◌, false, List, [], length, Ok, Err, refl, sym, subst, ap, arith}
 use Rattle.frame_pool.specs.Pool.{free_list}
 use Rattle.frame_pool.specs.declared.Pool.{Pool}
 use Rattle.pv_io.specs.Sink.{Appends, AppendsFront}
+use Rattle.board.specs.Scripts.{Events}
+use Rattle.image_check.specs.Image.{Image}
 use Rattle.run_trace.specs.declared.items.End.{End}
 use Rattle.run_trace.specs.Notes.{Note}
 use Rattle.run_trace.specs.Text.{end_line}
-use Rattle.shadow_tables.specs.Entries.{entries_of}
-use Rattle.shadow_cache.specs.Views as roots
 use Rattle.wedge_core.specs.OfRoots.{of_roots}
 use Rattle.shadow_cache.specs.declared.roots.Roots.{Roots}
 use Rattle.machine_model.specs.State.{Setting, State, boot, wedge}
@@ -14,8 +14,10 @@ use Rattle.wedge_step.specs.Filled.{pages_kept}
 use Rattle.wedge_core.specs.Noted.{NotesOn}
 use Rattle.wedge_core.proofs.AnsweredBy.{WedgeAnswers}
 use Rattle.run_trace.specs.Pauses.{end_of}
-use Rattle.wedge_core.specs.Slices.{BeginsEmpty, Counts}
+use Rattle.wedge_core.specs.Sliced.{BeginsKnown, knowing}
+use Rattle.wedge_core.specs.Slices.{Counts, Knowing}
 use Rattle.wedge_core.proofs.SlicedBy.{SliceAs}
+use Rattle.wedge_step.specs.Scene.{scene}
 use Rattle.wedge_step.specs.Standing.{state_of}
 use Rattle.wedge_step.specs.declared.running.Running.{Running}
 use Rattle.wedge_core.proofs.WholeRuns.{whole_put, whole_unput, whole_front, front_held, guest_held}
@@ -31,13 +33,15 @@ module _ (g : Over) where
   abbrev pool_in : Pool → Running Roots → List ℕ → ℕ
   pool_in pool r memory = length (free_list pool memory) + r.held
 
-  abbrev empty_in : Pool → Running Roots → List ℕ → Type 0
-  empty_in pool r memory = BeginsEmpty (entries_of (roots.slots r.shadows memory)) (length (free_list pool memory)) r.held false
+  abbrev knows_in : Image → Events → Pool → Running Roots → List ℕ → Pool → Running Roots → List ℕ → Knowing
+  knows_in image script pool r memory after new then =
+      knowing of_roots (wedge image script r.frames) (scene new after then) (BeginsKnown of_roots image script (scene r pool memory) false)
 
-  begins_in : (m : Setting) (pool : Pool) (r : Running Roots) (memory : List ℕ) → state_of of_roots m r memory ≡ boot m → r.held ≡ 2
-      → pool_in pool r memory ≡ 512 → empty_in pool r memory
-  begins_in m pool r memory first two all =
-      record { empty_set = ap (λ (b : State). b.set) first; two = two; ample = omega (arith, all); silent = refl }
+  begins_in : (image : Image) (script : Events) (m : Setting) (pool : Pool) (r : Running Roots) (memory : List ℕ)
+      → state_of of_roots m r memory ≡ boot m → r.held ≡ 2 → pool_in pool r memory ≡ 512
+      → BeginsKnown of_roots image script (scene r pool memory) false []
+  begins_in image script m pool r memory first two all =
+      inl (refl, record { empty_set = ap (λ (b : State). b.set) first; two = two; ample = omega (arith, all); silent = refl })
 
 pub slice-requires-clause-bound : goal.slice-requires-clause-bound
 slice-requires-clause-bound g c =
@@ -59,12 +63,15 @@ returns-in-Err g c =
     let old = state_of of_roots m c.args.guest.now (g.H.Host.bytes c.args.host.now) in
     let new = state_of of_roots m c.slice.new.self (g.H.Host.bytes c.slice.new.host) in
     let h = subst (λ (n : ℕ). SliceAs m n old new before after (g.O.Sink.taken c.args.out.now) (g.O.Sink.taken c.slice.new.out) pages fills
-    filled false no_notes (empty_in g c.args.pool.now c.args.guest.now (g.H.Host.bytes c.args.host.now)) (Err c.in-Err.field-0)) is
+    filled false no_notes (knows_in g c.args.image.now c.args.script.now.list c.args.pool.now c.args.guest.now
+    (g.H.Host.bytes c.args.host.now)
+    c.slice.new.pool c.slice.new.self (g.H.Host.bytes c.slice.new.host)) (Err c.in-Err.field-0)) is
     c.in-Err.ensures.slice in
     record {
       whole = whole_front c.args.image.now c.args.script.now.list f c.args.n
           (pool_in g c.args.pool.now c.args.guest.now (g.H.Host.bytes c.args.host.now)) old new before after _ _ pages fills filled false
-          no_notes (empty_in g c.args.pool.now c.args.guest.now (g.H.Host.bytes c.args.host.now)) c.in-Err.field-0 _ _
+          no_notes (knows_in g c.args.image.now c.args.script.now.list c.args.pool.now c.args.guest.now (g.H.Host.bytes c.args.host.now)
+          c.slice.new.pool c.slice.new.self (g.H.Host.bytes c.slice.new.host)) c.in-Err.field-0 _ _
           (g.H.Host.bytes c.slice.new.host) c.requires.fits c.requires.first h c.in-Err.ensures.faults.cause;
     }
 
@@ -86,7 +93,9 @@ returns-in-Err-put_end g c =
     let old = state_of of_roots m c.args.guest.now (g.H.Host.bytes c.args.host.now) in
     let new = state_of of_roots m c.slice.new.self memory in
     let h = subst (λ (n : ℕ). SliceAs m n old new before after (g.O.Sink.taken c.args.out.now) (g.O.Sink.taken c.slice.new.out) pages fills
-    filled false no_notes (empty_in g c.args.pool.now c.args.guest.now (g.H.Host.bytes c.args.host.now)) (Ok pause)) is
+    filled false no_notes (knows_in g c.args.image.now c.args.script.now.list c.args.pool.now c.args.guest.now
+    (g.H.Host.bytes c.args.host.now)
+    c.slice.new.pool c.slice.new.self (g.H.Host.bytes c.slice.new.host)) (Ok pause)) is
     c.in-Ok.ensures.slice in
     let has = front_held pause image script f c.slice.new.self c.slice.new.pool memory c.in-Ok.ensures.leaves.held in
     let put =
@@ -97,7 +106,8 @@ returns-in-Err-put_end g c =
     record {
       whole = whole_unput c.kept_on.ensures.before image script f c.args.n
           (pool_in g c.args.pool.now c.args.guest.now (g.H.Host.bytes c.args.host.now)) old new before after _ _ _ pages fills filled false
-          no_notes (empty_in g c.args.pool.now c.args.guest.now (g.H.Host.bytes c.args.host.now)) pause _ (g.O.Sink.faults c.slice.new.out)
+          no_notes (knows_in g c.args.image.now c.args.script.now.list c.args.pool.now c.args.guest.now (g.H.Host.bytes c.args.host.now)
+          c.slice.new.pool c.slice.new.self (g.H.Host.bytes c.slice.new.host)) pause _ (g.O.Sink.faults c.slice.new.out)
           _ memory c.requires.fits c.requires.first has h put c.in-Ok.ensures.faults.kept c.in-Err-put_end.ensures.cause;
     }
 
@@ -119,7 +129,9 @@ returns-in-Ok-put_end g c =
     let old = state_of of_roots m c.args.guest.now (g.H.Host.bytes c.args.host.now) in
     let new = state_of of_roots m c.slice.new.self memory in
     let h = subst (λ (n : ℕ). SliceAs m n old new before after (g.O.Sink.taken c.args.out.now) (g.O.Sink.taken c.slice.new.out) pages fills
-    filled false no_notes (empty_in g c.args.pool.now c.args.guest.now (g.H.Host.bytes c.args.host.now)) (Ok pause)) is
+    filled false no_notes (knows_in g c.args.image.now c.args.script.now.list c.args.pool.now c.args.guest.now
+    (g.H.Host.bytes c.args.host.now)
+    c.slice.new.pool c.slice.new.self (g.H.Host.bytes c.slice.new.host)) (Ok pause)) is
     c.in-Ok.ensures.slice in
     let has = front_held pause image script f c.slice.new.self c.slice.new.pool memory c.in-Ok.ensures.leaves.held in
     let put = subst (λ (k : ℕ). Appends (g.O.Sink.taken c.slice.new.out) (g.O.Sink.taken c.put_end.new.out) (end_line k (end_of pause)))
@@ -128,9 +140,11 @@ returns-in-Ok-put_end g c =
     c.end_of.ensures c.in-Ok-put_end.ensures.ok) in
     let done = whole_put c.kept_on.ensures.before image script f c.args.n
     (pool_in g c.args.pool.now c.args.guest.now (g.H.Host.bytes c.args.host.now)) old new before after _ _ _ pages fills filled false
-    no_notes (empty_in g c.args.pool.now c.args.guest.now (g.H.Host.bytes c.args.host.now)) pause _ (g.O.Sink.faults c.slice.new.out) _
+    no_notes (knows_in g c.args.image.now c.args.script.now.list c.args.pool.now c.args.guest.now (g.H.Host.bytes c.args.host.now)
+    c.slice.new.pool c.slice.new.self (g.H.Host.bytes c.slice.new.host)) pause _ (g.O.Sink.faults c.slice.new.out) _
     memory c.requires.fits c.requires.first
-    (begins_in g m c.args.pool.now c.args.guest.now (g.H.Host.bytes c.args.host.now) c.requires.first c.requires.two) c.requires.none
+    (begins_in g image script m c.args.pool.now c.args.guest.now (g.H.Host.bytes c.args.host.now) c.requires.first c.requires.two)
+    c.requires.none
     c.requires.unfilled c.in-Ok.ensures.leaves.few has
     (guest_held pause image script f c.slice.new.self c.slice.new.pool memory c.in-Ok.ensures.leaves.held) h put c.in-Ok.ensures.faults.kept
     c.in-Ok-put_end.ensures.kept in

@@ -1,4 +1,4 @@
-use Rattle.std.proofs.Common.{◌≡◌, ℕ, ◌+◌, ◌-◌, ◌*◌, ◌<◌, ◌≤◌, Bool, true, false, List, [], length, Ok, Err, refl, sym, ap, subst, ◌∙◌, arith}
+use Rattle.std.proofs.Common.{◌≡◌, ℕ, ◌+◌, ◌-◌, ◌*◌, ◌<◌, ◌≤◌, Bool, true, false, List, length, Ok, Err, refl, sym, ap, subst, ◌∙◌, arith}
 use Rattle.std.specs.FinMap.{len}
 use Rattle.descriptors.specs.declared.cpu.Cpu.{Cpu}
 use Rattle.image_check.specs.Image.{Image}
@@ -11,6 +11,7 @@ use Rattle.board.specs.Boards.{given}
 use Rattle.board.specs.Scripts.{Events}
 use Rattle.run_trace.specs.declared.pause.Pause.TheVariants.{Stopped}
 use Rattle.run_trace.specs.Text.{lines_of}
+use Rattle.machine_model.specs.Keeping.{Roomy}
 use Rattle.machine_model.specs.State.{Setting, State, wedge}
 use Rattle.machine_model.specs.Run.{Set}
 use Rattle.machine_model.specs.Taken.{Taken}
@@ -28,7 +29,7 @@ use Rattle.wedge_step.specs.Ready.{IsReady}
 use Rattle.wedge_step.specs.Scene.{AreAmple}
 use Rattle.wedge_step.specs.Standing.{IsHeld, IsAble, ground, state_of}
 use Rattle.wedge_core.specs.Stepping.{Passes, StepAs}
-use Rattle.wedge_core.proofs.CarriedOver.{CarriedWith, with_kept, carries_past, carried_there, room_at, ample_then, drop_clashes, step_carries}
+use Rattle.wedge_core.proofs.CarriedOver.{CarriedWith, as_carried, with_kept, carries_past, carried_there, room_at, ample_then, drop_clashes, step_carries}
 use Rattle.wedge_core.proofs.Passed.{CarriesPast}
 use Rattle.wedge_core.proofs.Going.{DropClashes, StepCarries, going_none, going_past, going_turned, going_on, stepped_put, reached, stopped, failed, counted, counts_same, turned, notes_on_more, notes_on_none}
 use Rattle.wedge_step.specs.Filled.{CountsFills, pages_kept}
@@ -108,10 +109,15 @@ module _ (g : Over) where
       (pages_kept g.S.Shadows r.shadows memory) before after (some_of _ _) f
 
   -- how the slice begins, where its sets keep the rule
-  abbrev Begun : Image → Events → ℕ → Running g.row.S.Denot → List ℕ → Pool → Bool → Type 0
-  Begun image script f r memory pool notes_wanted =
-      IsCarried g.S.Shadows (wedge image script f) [] (state_of g.S.Shadows (wedge image script f) r memory) r.shadows memory
+  abbrev Begun : Image → Events → ℕ → Running g.row.S.Denot → List ℕ → Pool → Bool → List Taken → Type 0
+  Begun image script f r memory pool notes_wanted past =
+      (Roomy past → IsCarried g.S.Shadows (wedge image script f) past
+      (state_of g.S.Shadows (wedge image script f) r memory) r.shadows memory)
       × AreAmple (length (free_list pool memory)) r.held × (notes_wanted ≡ false)
+
+  -- and what is known of it between two steps
+  abbrev Carried : Setting → Running g.row.S.Denot → List ℕ → List Taken → Type 0
+  Carried m r memory steps = IsCarried g.S.Shadows m steps (state_of g.S.Shadows m r memory) r.shadows memory
 
   abbrev Knows : Setting → Running g.row.S.Denot → List ℕ → Set → List Taken → State → Type 0
   Knows m r memory kept steps b = CarriedWith g.S.Shadows m r.shadows memory kept steps b
@@ -150,8 +156,8 @@ loop-running-init g c =
           (Begun g c.args.image.now c.args.script.now.list c.args.running.now.frames c.args.running.now (g.H.Host.bytes c.args.host.now)
           c.args.pool.now (g.L.Notes.wants c.args.notes.now)) (Knows g m c.args.running.now (g.H.Host.bytes c.args.host.now))
           (notes_on_none (g.L.Notes.wants c.args.notes.now) (g.L.Notes.tells c.args.notes.now)) (some_of _ _)
-          (λ s. with_kept g.S.Shadows m c.args.running.now.shadows (g.H.Host.bytes c.args.host.now) []
-          (state_of g.S.Shadows m c.args.running.now (g.H.Host.bytes c.args.host.now)) s.0);
+          (λ past s roomy. with_kept g.S.Shadows m c.args.running.now.shadows (g.H.Host.bytes c.args.host.now) past
+          (state_of g.S.Shadows m c.args.running.now (g.H.Host.bytes c.args.host.now)) (s.0 roomy));
       held = c.requires.between.held;
       ready = c.requires.between.ready;
       able = c.requires.able;
@@ -346,17 +352,19 @@ returns-in-Err-clause-slice g c =
     c.loop-running.pool c.begin.new.self begins c.wanted-notes_wanted.result
     (c.stretch.ensures.leaves.frames ∙ inv.frames) stays c.begin.ensures inv.held held_mid c.stretch.ensures.leaves.kept
     c.stretch.ensures.leaves.apart
-    (λ s. ample_then g.S.Shadows (widens g) laws (ground c.args.image.now f) c.args.running.now mid c.args.pool.now c.loop-running.pool
+    (λ past s. ample_then g.S.Shadows (widens g) laws (ground c.args.image.now f) c.args.running.now mid c.args.pool.now c.loop-running.pool
     (g.H.Host.bytes c.args.host.now) then_memory c.requires.between.held held_mid keeps_mid s.1)
     c.in-Err.ensures.steps.clashed in
     let ends = stopped m c.args.bound old (at f r memory) (at f new new_memory) new.lost c.in-Err.stop counts so_far told tells
     (pages_kept g.S.Shadows c.args.running.now.shadows (g.H.Host.bytes c.args.host.now)) c.args.running.now.fills r.fills new.fills
     notes_wanted (NotesOn notes_wanted first before) (NotesOn notes_wanted first after)
-    begins (Knows g m r memory) inv.going step c.loop-running-test.true still rises laws (known_past g laws m r memory) clash
+    begins (Carried g m new new_memory) (Knows g m r memory) inv.going step c.loop-running-test.true still rises
+    (known_past g laws m r memory) clash
     (notes_on_more notes_wanted first before after (emptied_if new.lost.before r.step) told_now) in
     subst (λ (x : Counts). SliceAs m c.args.bound old (at f new new_memory) counts x told tells
     (pages_kept g.S.Shadows c.args.running.now.shadows (g.H.Host.bytes c.args.host.now)) c.args.running.now.fills new.fills notes_wanted
-    (NotesOn notes_wanted first after) begins (Ok (Stopped c.in-Err.stop))) (sym unmoved) ends
+    (NotesOn notes_wanted first after) (record { before = begins; after = Carried g m new new_memory }) (Ok (Stopped c.in-Err.stop)))
+    (sym unmoved) ends
 
 pub returns-in-Err-put_seen-clause-slice : goal.returns-in-Err-put_seen-clause-slice
 returns-in-Err-put_seen-clause-slice g c =
@@ -425,8 +433,8 @@ returns-in-Err-put_seen-clause-slice g c =
     step_carries g.S.Shadows (widens g) laws c.args.image.now c.args.script.now.list f r mid new memory then_memory new_memory
     c.loop-running.pool c.begin.new.self begins c.wanted-notes_wanted.result
     (c.stretch.ensures.leaves.frames ∙ inv.frames) stays c.begin.ensures inv.held held_mid c.stretch.ensures.leaves.kept
-    c.stretch.ensures.leaves.apart (λ s. inv.notes_wanted ∙ s.2)
-    (λ s. ample_then g.S.Shadows (widens g) laws (ground c.args.image.now f) c.args.running.now mid c.args.pool.now c.loop-running.pool
+    c.stretch.ensures.leaves.apart (λ past s. inv.notes_wanted ∙ s.2)
+    (λ past s. ample_then g.S.Shadows (widens g) laws (ground c.args.image.now f) c.args.running.now mid c.args.pool.now c.loop-running.pool
     (g.H.Host.bytes c.args.host.now) then_memory c.requires.between.held held_mid keeps_mid s.1)
     c.in-Ok.ensures.steps.carried c.in-Ok.ensures.steps.clashed in
     let s = going_on m old (at f r memory) (at f new new_memory) new.lost c.in-Ok.seen counts so_far new_counts told tells
@@ -436,8 +444,8 @@ returns-in-Err-put_seen-clause-slice g c =
     (notes_on_more notes_wanted first before after (notes_then new.lost r.step) told_now) in
     failed m c.args.bound old (at f r memory) (at f new new_memory) c.in-Ok.seen c.in-Err-put_seen.failed counts new_counts told tells last
     (pages_kept g.S.Shadows c.args.running.now.shadows (g.H.Host.bytes c.args.host.now)) c.args.running.now.fills new.fills notes_wanted
-    (NotesOn notes_wanted first after) begins (Knows g m new new_memory) s put
-    (within_bound _ _ _ count c.loop-running-test.true) laws (known_past g laws m new new_memory)
+    (NotesOn notes_wanted first after) begins (Carried g m new new_memory) (Knows g m new new_memory) s put
+    (within_bound _ _ _ count c.loop-running-test.true) (known_past g laws m new new_memory)
 
 pub loop-running-preserved : goal.loop-running-preserved
 loop-running-preserved g c =
@@ -505,8 +513,8 @@ loop-running-preserved g c =
     step_carries g.S.Shadows (widens g) laws c.args.image.now c.args.script.now.list f r mid new memory then_memory new_memory
     c.loop-running.pool c.begin.new.self begins c.wanted-notes_wanted.result
     (c.stretch.ensures.leaves.frames ∙ inv.frames) stays c.begin.ensures inv.held held_mid c.stretch.ensures.leaves.kept
-    c.stretch.ensures.leaves.apart (λ s. inv.notes_wanted ∙ s.2)
-    (λ s. ample_then g.S.Shadows (widens g) laws (ground c.args.image.now f) c.args.running.now mid c.args.pool.now c.loop-running.pool
+    c.stretch.ensures.leaves.apart (λ past s. inv.notes_wanted ∙ s.2)
+    (λ past s. ample_then g.S.Shadows (widens g) laws (ground c.args.image.now f) c.args.running.now mid c.args.pool.now c.loop-running.pool
     (g.H.Host.bytes c.args.host.now) then_memory c.requires.between.held held_mid keeps_mid s.1)
     c.in-Ok.ensures.steps.carried c.in-Ok.ensures.steps.clashed in
     let s = going_on m old (at f r memory) (at f new new_memory) new.lost c.in-Ok.seen counts so_far new_counts told tells
@@ -602,8 +610,9 @@ returns-clause-slice g c =
     (g.L.Notes.wants c.args.notes.now)
     (NotesOn (g.L.Notes.wants c.args.notes.now) (g.L.Notes.tells c.args.notes.now) (g.L.Notes.tells c.loop-running.notes))
     (Begun g c.args.image.now c.args.script.now.list c.args.running.now.frames c.args.running.now (g.H.Host.bytes c.args.host.now)
-    c.args.pool.now (g.L.Notes.wants c.args.notes.now)) (Knows g m r memory) inv.going
-    (at_bound _ _ inv.bound c.loop-running-test.false) c.carry_laws.ensures (known_past g c.carry_laws.ensures m r memory)
+    c.args.pool.now (g.L.Notes.wants c.args.notes.now)) (Carried g m r memory) (Knows g m r memory) inv.going
+    (at_bound _ _ inv.bound c.loop-running-test.false) (known_past g c.carry_laws.ensures m r memory)
+    (λ steps whole k. as_carried g.S.Shadows m r.shadows memory (at f r memory) steps whole refl k)
 
 -- ---- what else is said of each end
 

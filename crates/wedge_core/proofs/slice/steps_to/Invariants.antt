@@ -1,4 +1,5 @@
-use Rattle.std.proofs.Common.{◌≡◌, ◌-◌, ◌+◌, ◌≤◌, ◌<◌, ◌^◌, true, false, [], length}
+use Rattle.std.proofs.Common.{◌≡◌, ◌-◌, ◌+◌, ◌≤◌, ◌<◌, ◌^◌, true, false, length}
+use Rattle.machine_model.specs.Keeping.{Roomy}
 use Rattle.machine_model.specs.State.{wedge}
 use Rattle.wedge_step.specs.Filled.{CountsFills, pages_kept}
 use Rattle.wedge_core.specs.Noted.{NotesOn}
@@ -22,9 +23,9 @@ invariant-loop-running g l = record {
       (g.O.Sink.taken l.fn.out) (g.O.Sink.taken l.out) (pages_kept g.S.Shadows l.fn.running.shadows (g.H.Host.bytes l.fn.host))
       l.fn.running.fills l.running.fills (g.L.Notes.wants l.fn.notes)
       (NotesOn (g.L.Notes.wants l.fn.notes) (g.L.Notes.tells l.fn.notes) (g.L.Notes.tells l.notes))
-      (IsCarried g.S.Shadows (wedge l.image l.script.list l.fn.running.frames) []
+      (λ past. (Roomy past → IsCarried g.S.Shadows (wedge l.image l.script.list l.fn.running.frames) past
       (state_of g.S.Shadows (wedge l.image l.script.list l.fn.running.frames) l.fn.running (g.H.Host.bytes l.fn.host)) l.fn.running.shadows
-      (g.H.Host.bytes l.fn.host)
+      (g.H.Host.bytes l.fn.host))
       × AreAmple (length (free_list l.fn.pool (g.H.Host.bytes l.fn.host))) l.fn.running.held × (g.L.Notes.wants l.fn.notes ≡ false))
       (CarriedWith g.S.Shadows (wedge l.image l.script.list l.fn.running.frames) l.running.shadows (g.H.Host.bytes l.host));
   held : IsHeld g.S.Shadows (ground l.image l.fn.running.frames) l.running l.pool (g.H.Host.bytes l.host);

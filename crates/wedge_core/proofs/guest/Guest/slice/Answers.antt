@@ -1,22 +1,22 @@
-use Rattle.std.proofs.Common.{◌≡◌, ℕ, ◌+◌, ◌*◌, false, List, [], length, take, refl, sym, ap, subst, ◌∙◌, arith}
-use Rattle.std.specs.FinMap.{empty}
+use Rattle.std.proofs.Common.{◌≡◌, inl, inr, ℕ, ◌+◌, ◌*◌, false, List, length, take, refl, sym, ap, subst, ◌∙◌, arith}
 use Rattle.frame_pool.specs.Pool.{free_list}
 use Rattle.frame_pool.specs.declared.Pool.{Pool}
 use Rattle.image_check.specs.Image.{Image}
-use Rattle.shadow_tables.specs.Entries.{entries_of}
 use Rattle.shadow_cache.specs.Views as roots
 use Rattle.wedge_core.specs.OfRoots.{of_roots}
 use Rattle.shadow_cache.specs.declared.roots.Roots.{Roots}
+use Rattle.machine_model.specs.Keeping.{Roomy}
 use Rattle.machine_model.specs.State.{State, wedge}
+use Rattle.machine_model.specs.Taken.{Taken}
 use Rattle.native_steps.specs.Mirrors.{shown}
 use Rattle.wedge_step.specs.Carried.{IsCarried}
 use Rattle.wedge_step.specs.Filled.{CountsFills, pages_kept}
 use Rattle.wedge_core.specs.Noted.{NotesOn}
 use Rattle.wedge_core.specs.Calls.{GuestLeaves}
 use Rattle.wedge_core.specs.Promises.{with_patches}
-use Rattle.wedge_core.specs.Sliced.{BeginsBare, SliceIn, SliceLeaves, noting, outward}
+use Rattle.wedge_core.specs.Sliced.{BeginsKnown, SliceIn, SliceLeaves, noting, outward}
 use Rattle.wedge_step.specs.Ready.{IsReady}
-use Rattle.wedge_core.specs.Slices.{BeginsEmpty, Counts}
+use Rattle.wedge_core.specs.Slices.{Counts, Knowing}
 use Rattle.wedge_core.proofs.SlicedBy.{SliceAs}
 use Rattle.run_trace.specs.Pauses.{IfReached}
 use Rattle.wedge_step.specs.Leaves.{IsBetween}
@@ -26,7 +26,7 @@ use Rattle.wedge_step.specs.declared.running.Running.{Running}
 use Rattle.wedge_step.proofs.Keeping.{keeps_join}
 use Rattle.wedge_core.proofs.Owning.{keeps_owns}
 use Rattle.wedge_core.proofs.Guests.{still_filled, front_after}
-use Rattle.wedge_core.proofs.SliceStarts.{more_first, slice_begun, anew_carries}
+use Rattle.wedge_core.proofs.SliceStarts.{more_first, slice_begun, anew_carries, begun_carries}
 use Rattle.wedge_core.proofs.guest.Guest.slice.Goals as goal
 
 -- what holds of the guest as contracts see it holds of its fields
@@ -180,39 +180,57 @@ returns-clause-slice g c =
     let on = NotesOn notes_wanted (g.L.Notes.tells c.args.notes.now) (g.L.Notes.tells c.steps_to.new.notes) in
     let first = pages_kept of_roots begun.shadows m1 in
     let pages = pages_kept of_roots old.shadows m0 in
-    let Knows = λ (n : ℕ). IsCarried of_roots (wedge image script n) [] (state_of of_roots (wedge image script n) begun m1) begun.shadows m1
+    let Knows = λ (n : ℕ) (past : List Taken).
+    (Roomy past → IsCarried of_roots (wedge image script n) past (state_of of_roots (wedge image script n) begun m1) begun.shadows m1)
     × AreAmple (length (free_list c.begin.new.pool m1)) begun.held × (notes_wanted ≡ false) in
-    let starts = BeginsEmpty (entries_of (roots.slots old.shadows m0)) (length (free_list c.args.pool.now m0)) old.held notes_wanted in
+    let knows : ℕ → Knowing = λ n. record {
+      before = Knows n;
+      after = λ steps. IsCarried of_roots (wedge image script n) steps (state_of of_roots (wedge image script n) end m2) end.shadows m2;
+    } in
+    let starts = BeginsKnown of_roots image script (scene old c.args.pool.now m0) notes_wanted in
     let by_frames =
     subst (λ (n : ℕ). SliceAs (wedge image script n) bound (state_of of_roots (wedge image script n) begun m1)
     (state_of of_roots (wedge image script n) end m2) mid after told tells first begun.fills end.fills notes_wanted on
-    (Knows n) c.steps_to.result)
+    (knows n) c.steps_to.result)
     (same_frames old begun c.begin.ensures.begins.running) c.steps_to.ensures.slice in
     let by_fills = subst (λ (n : ℕ). SliceAs m bound (state_of of_roots m begun m1) (state_of of_roots m end m2) mid after told tells first
-    n end.fills notes_wanted on (Knows old.frames) c.steps_to.result)
+    n end.fills notes_wanted on (knows old.frames) c.steps_to.result)
     (same_fills old begun c.begin.ensures.begins.running) by_frames in
     let by_state =
     subst (λ (b : State). SliceAs m bound b (state_of of_roots m end m2) mid after told tells first old.fills end.fills notes_wanted on
-    (Knows old.frames) c.steps_to.result) (c.begin.ensures.begins.state m refl) by_fills in
+    (knows old.frames) c.steps_to.result) (c.begin.ensures.begins.state m refl) by_fills in
     let by_counts =
     subst (λ (x : Counts). SliceAs m bound (state_of of_roots m old m0) (state_of of_roots m end m2) x after told tells first old.fills
-    end.fills notes_wanted on (Knows old.frames) c.steps_to.result)
+    end.fills notes_wanted on (knows old.frames) c.steps_to.result)
     (λ i. record { retired = c.begin.ensures.counts.retired i; passed = c.begin.ensures.counts.passed i }) by_state in
     let held_now = c.begin.ensures.begins.held image between.held in
     subst (λ (r : Running Roots). SliceIn of_roots (wedge image script r.frames) (r.step + c.args.k) (scene r c.args.pool.now m0)
     (scene end c.steps_to.new.pool m2) (outward g.H.Host g.O.Sink c.args.host.now c.steps_to.new.host c.args.out.now c.steps_to.new.out)
-    (noting g.L.Notes c.args.notes.now c.steps_to.new.notes) (BeginsBare of_roots (scene r c.args.pool.now m0) notes_wanted)
+    (noting g.L.Notes c.args.notes.now c.steps_to.new.notes) (BeginsKnown of_roots image script (scene r c.args.pool.now m0) notes_wanted)
     c.steps_to.result) c.self.view_is
     (slice_begun m bound (state_of of_roots m old m0) (state_of of_roots m end m2) before after told tells first pages old.fills end.fills
-    notes_wanted on (Knows old.frames) starts c.steps_to.result c.begin.ensures.begins.fewer
-    (λ s.
-    let none : entries_of (roots.slots begun.shadows m1) ≡ empty =
-    ap (λ (b : State). b.set) (c.begin.ensures.begins.state m refl) ∙ s.empty_set in
+    notes_wanted on (knows old.frames) starts c.steps_to.result c.begin.ensures.begins.fewer
+    (λ past s.
     let count = between.held.counted in
     let count_now = held_now.counted in
     let lengths = c.begin.ensures.begins.keeps.lengths in
-    let ample = s.ample in (
-      anew_carries of_roots c.carry_laws.ensures m (state_of of_roots m begun m1) begun.shadows m1 none (c.begin.ensures.begins.anew s.two),
-      omega (arith, count, count_now, lengths, ample),
-      s.silent,
-    )) by_counts)
+    let sets = ap (λ (b : State). b.set) (c.begin.ensures.begins.state m refl) in
+    elim s [
+      | inl bare ↦
+          let ample = bare.1.ample in (
+            λ roomy. subst (λ (l : List Taken). IsCarried of_roots m l (state_of of_roots m begun m1) begun.shadows m1) (sym bare.0)
+                (anew_carries of_roots c.carry_laws.ensures m (state_of of_roots m begun m1) begun.shadows m1 (sets ∙ bare.1.empty_set)
+                (c.begin.ensures.begins.anew bare.1.two)),
+            omega (arith, count, count_now, lengths, ample),
+            bare.1.silent,
+          )
+      | inr known ↦
+          let ample = known.1 in (
+            λ roomy. begun_carries of_roots c.carry_laws.ensures m past (state_of of_roots m old m0)
+                (state_of of_roots m begun m1) old.shadows
+                begun.shadows m0 m1 (c.begin.ensures.begins.state m refl) sets c.begin.ensures.begins.beside c.begin.ensures.begins.tables
+                (known.0 roomy),
+            omega (arith, count, count_now, lengths, ample),
+            known.2,
+          )
+    ]) by_counts)
