@@ -10,9 +10,13 @@ use Rattle.frame_pool.proofs.Above.{frame-above, Owns-above, free_list-above}
 use Rattle.frame_pool.proofs.Lengths.{times-IsNotIn, zero-or}
 use Rattle.frame_pool.proofs.Held.{Owns-none}
 use Rattle.frame_pool.proofs.Calls.{IsOut-same}
+use Rattle.wedge_step.specs.CarryLaws.{CarryLaws}
 use Rattle.wedge_step.specs.Pools.{Keeps}
 use Rattle.guest_sched.specs.Apart.{Seat, held_by, IsSeated, AreSeated, times_held, all_held, AreApart, behind_as, StaysSo, EachStays}
-use Rattle.guest_sched.proofs.Stays.{seated_still, held_still, same_still}
+use Rattle.guest_sched.specs.Known.{IsKnownSince}
+use Rattle.guest_sched.specs.Since.{Since}
+use Rattle.guest_sched.specs.declared.kernel.Kernel.{Kernel}
+use Rattle.guest_sched.proofs.Stays.{seated_still, held_still, knows_still, same_still}
 
 -- memory whose front is one's and which goes on as another's
 module _ (n : ℕ) (own other : List ℕ) (same : length own ≡ length other) (room : n ≤ length own) where
@@ -26,6 +30,15 @@ module _ (n : ℕ) (own other : List ℕ) (same : length own ≡ length other) (
   laid_behind =
       ap (λ (k : ℕ). drop k (take n own ++ drop n other)) (sym (length-take-le n own room))
       ∙ drop-append_seam (take n own) (drop n other)
+
+-- what was known of translations is known still, of each kernel
+abbrev pub KnowsOn : ℕ → Seat → Seat → Type 0
+KnowsOn frames s s' = CarryLaws → (k : Kernel) (since : Since) → IsKnownSince frames k s since → IsKnownSince frames k s' since
+
+abbrev pub EachKnows : ℕ → List Seat → List Seat → Type 0
+EachKnows frames [] [] = Unit {0}
+EachKnows frames (s ∷ seats) (s' ∷ news) = KnowsOn frames s s' × EachKnows frames seats news
+EachKnows frames seats news = ⊥
 
 module _ (frames : ℕ) (p p' : Pool) (host host' fs fs' : List ℕ) (keeps : Keeps p p' host host' fs fs') (behind : frames ≤ base_of p)
     (stands : Stands p' host') where
@@ -109,6 +122,15 @@ module _ (frames : ℕ) (p p' : Pool) (host host' fs fs' : List ℕ) (keeps : Ke
           (λ f k. IsOut-same p' host' other_memory f free_same' (keeps.out f (out_here f k) (apart f k)))
           (let count = ap length free_same' in omega (arith, count, small)) behind h
 
+      other_knows : CarryLaws → (k : Kernel) (since : Since) → IsKnownSince frames k s since
+          → IsKnownSince frames k (behind_as frames host' s) since
+      unfolding other_memory
+      other_knows =
+          knows_still frames p p' s other_memory size front still keeps.same
+          stands'
+          (λ f k. IsOut-same p' host' other_memory f free_same' (keeps.out f (out_here f k) (apart f k)))
+          (let count = ap length free_same' in omega (arith, count, small)) behind h
+
       other_length : length (behind_as frames host' s).memory ≡ length host'
       unfolding other_memory
       other_length = size'
@@ -128,12 +150,13 @@ module _ (frames : ℕ) (p p' : Pool) (host host' fs fs' : List ℕ) (keeps : Ke
     pub all_same : all_held news ≡ all_held seats
     pub unfree : (f : ℕ) → 1 ≤ times_held f seats → times f (free_list p host) ≡ 0
     pub stay : EachStays frames seats news
+    pub knows : EachKnows frames seats news
 
   pub others_stay : (seats : List Seat) → AreSeated frames p host seats → ((f : ℕ) → times_held f seats + times f fs ≤ 1)
       → length (free_list p' host') + all_held seats < 2 ^ 32
       → Others seats (map (behind_as frames host') seats)
   others_stay [] h apart small =
-      record { seated = tt; times_same = λ f. refl; all_same = refl; unfree = λ f k. absurd (omega (arith, k)); stay = tt }
+      record { seated = tt; times_same = λ f. refl; all_same = refl; unfree = λ f k. absurd (omega (arith, k)); stay = tt; knows = tt }
   others_stay (s ∷ seats) h apart small =
       let rest = others_stay seats h.3 (λ f. (let a = apart f in omega (arith, a))) (omega (arith, small)) in
       let mine : (f : ℕ) → 1 ≤ times f (held_by s) → times f fs ≡ 0 = λ f k. (let a = apart f in omega (arith, a, k)) in
@@ -148,6 +171,7 @@ module _ (frames : ℕ) (p p' : Pool) (host host' fs fs' : List ℕ) (keeps : Ke
           | inr some ↦ held_out s h.0 h.1 h.2 mine few f some
         ];
         stay = (other_same s h.0 h.1 h.2 mine few, rest.stay);
+        knows = (other_knows s h.0 h.1 h.2 mine few, rest.knows);
       }
 
 pub held_append : (f : ℕ) (xs ys : List Seat) → times_held f (xs ++ ys) ≡ times_held f xs + times_held f ys
@@ -243,4 +267,27 @@ others_same frames p p' host host' before after s s' h keeps stands =
           (λ f. (let a = h.once f in let b = counts f in omega (arith, a, b))) (omega (arith, all, few, lengths, sums))).stay,
       (others_stay frames p p' host host' (held_by s) (held_by s') keeps h.behind stands after tail.3
           (λ f. (let a = h.once f in let b = counts f in omega (arith, a, b))) (omega (arith, all, few, lengths, sums))).stay,
+    )
+
+-- and what was known of their translations is known still
+abbrev pub OthersKnow : ℕ → List ℕ → List Seat → List Seat → Type 0
+OthersKnow frames host' before after =
+    EachKnows frames before (map (behind_as frames host') before) × EachKnows frames after (map (behind_as frames host') after)
+
+pub others_know : (frames : ℕ) (p p' : Pool) (host host' : List ℕ) (before after : List Seat) (s s' : Seat)
+    → AreApart frames p host (before ++ s ∷ after)
+    → Keeps p p' host host' (held_by s) (held_by s') → Stands p' host' → OthersKnow frames host' before after
+others_know frames p p' host host' before after s s' h keeps stands =
+    let sums = all_append before (s ∷ after) in
+    let counts : (f : ℕ) → times_held f (before ++ s ∷ after) ≡ times_held f before + (times f (held_by s) + times_held f after) =
+    λ f. held_append f before (s ∷ after) in
+    let all = h.all in
+    let few = h.few in
+    let lengths = keeps.lengths in
+    let tail = seated_right frames p host before (s ∷ after) h.seated in (
+      (others_stay frames p p' host host' (held_by s) (held_by s') keeps h.behind stands before
+          (seated_left frames p host before (s ∷ after) h.seated)
+          (λ f. (let a = h.once f in let b = counts f in omega (arith, a, b))) (omega (arith, all, few, lengths, sums))).knows,
+      (others_stay frames p p' host host' (held_by s) (held_by s') keeps h.behind stands after tail.3
+          (λ f. (let a = h.once f in let b = counts f in omega (arith, a, b))) (omega (arith, all, few, lengths, sums))).knows,
     )

@@ -18,6 +18,7 @@ use Rattle.guest_sched.specs.Between.{EachStands, StandsSo, stops_of}
 use Rattle.guest_sched.specs.Pieces.{Piece, piece_text, shared_text, reports_of, own_text, bound_line, bound_texts}
 use Rattle.guest_sched.specs.Bounds.{bound_of}
 use Rattle.guest_sched.specs.Rounds.{EndsRound, HasGoneRound}
+use Rattle.guest_sched.specs.Since.{Since}
 use Rattle.guest_sched.specs.Seating.{seat_of, seats_from}
 use Rattle.guest_sched.specs.Shared.{EachRan, RanAlone, alone}
 use Rattle.guest_sched.specs.OwnEnds.{EachHasOwnEnd, HasOwnEnd}
@@ -91,18 +92,21 @@ module _ (kernels : List Kernel) (frames : ℕ) (whole : List Slice) (pieces : L
         × EachHasOwnEnd 0 frames whole pieces kernels (map ended_of tenants) each host
     each_ran = all_ran 0 frames pool host present whole pieces kernels tenants h.rooms.len h.each h.apart.seated
 
-    rounded : HasGoneRound kernels frames whole pieces (record { tenants = tenants; pool = pool; present = present; memory = host })
+    rounded : (since : ℕ → Since)
+        → HasGoneRound kernels frames whole pieces (record { tenants = tenants; pool = pool; present = present; memory = host }) since
         → EndsRound kernels frames whole pieces host (map ended_of tenants)
-    rounded gone = record {
+    rounded since gone = record {
+      since = since;
       last = record { tenants = tenants; pool = pool; present = present; memory = host };
       gone = gone;
       memory_is = refl;
       ended_are = refl;
     }
 
-    pub ends_shared : HasGoneRound kernels frames whole pieces (record { tenants = tenants; pool = pool; present = present; memory = host })
+    pub ends_shared : (since : ℕ → Since)
+        → HasGoneRound kernels frames whole pieces (record { tenants = tenants; pool = pool; present = present; memory = host }) since
         → SharedRun kernels whole frames before now host (shared_text pieces (map ended_of tenants)) (map ended_of tenants)
-    ends_shared gone = record {
+    ends_shared since gone = record {
       pieces = pieces;
       turns = h.turns;
       each = each_ran.0;
@@ -110,21 +114,22 @@ module _ (kernels : List Kernel) (frames : ℕ) (whole : List Slice) (pieces : L
       text_is = refl;
       lines = lines_alone frames whole pieces kernels (map ended_of tenants) each_ran.0;
       counts = h.counts;
-      rounds = rounded gone;
+      rounds = rounded since gone;
     }
 
     pub ends_put : (last : Option (List ℕ)) → Appends new last (bound_texts 0 (map ended_of tenants))
         → Appends old last (shared_text pieces (map ended_of tenants))
     ends_put last put = both old new last (flat_map piece_text pieces) (bound_texts 0 (map ended_of tenants)) h.text put
 
-    pub ends_fail : HasGoneRound kernels frames whole pieces (record { tenants = tenants; pool = pool; present = present; memory = host })
+    pub ends_fail : (since : ℕ → Since)
+        → HasGoneRound kernels frames whole pieces (record { tenants = tenants; pool = pool; present = present; memory = host }) since
         → (last : Option (List ℕ)) → AppendsFront new last (bound_texts 0 (map ended_of tenants))
         → FailsAtEnd kernels whole frames host old last
-    ends_fail gone last put = record {
+    ends_fail since gone last put = record {
       pieces = pieces;
       ended = map ended_of tenants;
       turns = h.turns;
       each = each_ran.0;
-      rounds = rounded gone;
+      rounds = rounded since gone;
       front = then_front old new last (flat_map piece_text pieces) (bound_texts 0 (map ended_of tenants)) h.text put;
     }

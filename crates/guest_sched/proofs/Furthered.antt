@@ -1,46 +1,59 @@
 -- The kernels stand between two turns when one more turn was done; where the sink has failed in it, this was put.
-use Rattle.std.proofs.Common.{◌≡◌, ◌≢◌, inl, inr, ℕ, suc, ◌+◌, ◌≤◌, ◌<◌, true, List, [], ◌∷◌, ◌++◌, length, map, set, get_or, Option, Some, None, is_none, refl, ap, sym, subst, ◌∙◌, arith, append-nil, append_assoc, length-append, Ok}
+use Rattle.std.proofs.Common.{◌≡◌, ◌≢◌, ◌⊎◌, inl, inr, ℕ, suc, ◌+◌, ◌≤◌, ◌<◌, Bool, true, false, cond, nat_le, leb-true, List, [], ◌∷◌, ◌++◌, length, map, set, get_or, Option, Some, None, is_none, refl, ap, sym, subst, ◌∙◌, arith, append-nil, append_assoc, length-append, Ok}
 use Rattle.std.specs.List.{flat_map}
-use Rattle.std.specs.Prelude.{IfSome}
+use Rattle.std.specs.Prelude.{IfSome, if◌then◌else◌}
 use Rattle.std.proofs.lemmas.Bool.Decides.{eqb_tells}
 use Rattle.std.proofs.lemmas.List.{length-set, length-map, map-set, get_or-map}
 use Rattle.ia32_types.specs.declared.stop.Stop.{Stop}
-use Rattle.frame_pool.specs.Pool.{Stands}
+use Rattle.frame_pool.specs.Pool.{Stands, free_list}
 use Rattle.frame_pool.specs.declared.Pool.{Pool}
 use Rattle.pv_io.specs.Sink.{Appends}
 use Rattle.run_trace.specs.declared.items.End.TheVariants.{Stopped}
 use Rattle.run_trace.specs.declared.pause.Pause.{Pause}
 use Rattle.run_trace.specs.declared.pause.Pause.TheVariants as pauses
-use Rattle.run_trace.specs.Pauses.{end_of}
+use Rattle.run_trace.specs.Pauses.{IfReached, end_of}
+use Rattle.run_trace.proofs.Pauses.{reached_so}
 use Rattle.run_trace.specs.Text.{lines_of, text_of, end_line}
 use Rattle.machine_model.specs.Counts.{direct_count, passed_digest}
 use Rattle.machine_model.specs.Run.{Steps, StopHolds, trace_of}
 use Rattle.machine_model.specs.State.{Setting, State, boot, wedge}
 use Rattle.machine_model.specs.Step.{Report}
+use Rattle.machine_model.specs.Taken.{Taken, steps_by}
+use Rattle.machine_model.specs.Keeping.{Roomy}
 use Rattle.machine_model.proofs.Texts.{reported}
+use Rattle.wedge_core.specs.KeptAfter.{KeptAfter}
 use Rattle.wedge_core.specs.OfRoots.{of_roots}
+use Rattle.wedge_core.specs.Sliced.{BeginsKnown}
 use Rattle.sites.specs.declared.site.Site.{Site}
 use Rattle.wedge_core.specs.Slices.{Counts}
+use Rattle.wedge_step.specs.Carried.{IsCarried}
+use Rattle.wedge_step.specs.CarryLaws.{CarryLaws}
 use Rattle.wedge_step.specs.Filled.{pages_kept}
+use Rattle.wedge_step.specs.Scene.{scene}
 use Rattle.wedge_step.specs.Standing.{state_of}
 use Rattle.guest_sched.specs.Apart.{Seat, MayGoOn, IsSeated, AreApart, behind_as}
 use Rattle.guest_sched.specs.Between.{EachStands, StandsSo, IsNext, stops_of}
 use Rattle.guest_sched.specs.Pieces.{Piece, MakesSteps, has_stopped, piece_text, counts_over, reports_of, own_text, stop_line}
 use Rattle.guest_sched.specs.Bounds.{bound_of}
-use Rattle.guest_sched.specs.Rounds.{BeginsTurn, HasBegunRound, MakesTurn}
+use Rattle.guest_sched.specs.Known.{AreKnown, EachKnown, IsBare, IsKnownSince}
+use Rattle.guest_sched.specs.Rounds.{BeginsTurn, HasBegunRound, IsLeftAfter, MakesTurn}
 use Rattle.guest_sched.specs.Seating.{seats_from, HasGoneOn}
 use Rattle.guest_sched.specs.Shared.{alone, sites_in, IsBegun, BeganAlone, EachBegan}
 use Rattle.guest_sched.specs.SharedRuns.{FailsInTurn}
-use Rattle.guest_sched.specs.Stages.{end_with}
+use Rattle.guest_sched.specs.Since.{Since, since_in, since_then, turned_since}
+use Rattle.guest_sched.specs.Stages.{Stage, end_with}
 use Rattle.guest_sched.specs.Tags.{tag_of}
+use Rattle.guest_sched.specs.Turns.{TurnKept, knowing_in}
 use Rattle.guest_sched.specs.Went.{EndsSo, HasFailed}
 use Rattle.guest_sched.specs.declared.kernel.Kernel.{Kernel}
 use Rattle.guest_sched.specs.declared.schedule.Slice.{Slice}
 use Rattle.guest_sched.specs.declared.tenants.Tenant.{Tenant}
-use Rattle.guest_sched.proofs.Apart.{one_moves, others_same}
+use Rattle.guest_sched.proofs.Apart.{one_moves, others_know, others_same}
 use Rattle.guest_sched.proofs.Between.{Here, here_of, at_place, direct_few, sites_at, sums_of, next_slice}
 use Rattle.guest_sched.proofs.Brought.{get_or_any, left_rooms}
 use Rattle.guest_sched.proofs.Going.{split}
+use Rattle.guest_sched.proofs.Knowing.{known_moves, turned_here, turned_other}
+use Rattle.guest_sched.proofs.Knows.{known_here}
 use Rattle.guest_sched.proofs.Legs.{began_on}
 use Rattle.guest_sched.proofs.Puts.{both}
 use Rattle.guest_sched.proofs.Stands.{went_stands, skip_stands}
@@ -54,24 +67,50 @@ stops_so : (number : ℕ) (t : Tenant) (taken tells : Option (List ℕ)) (pause 
 stops_so number t taken tells pauses.Reached ends = ap end_with ends.0
 stops_so number t taken tells (pauses.Stopped stop) ends = ap end_with ends.0
 
+-- one that may go on has made all its steps
+live_reached : (number : ℕ) (t : Tenant) (taken tells : Option (List ℕ)) (pause : Pause) → EndsSo number t taken tells pause
+    → is_none t.stop ≡ true → pause ≡ pauses.Reached
+live_reached number t taken tells pauses.Reached ends live = refl
+live_reached number t taken tells (pauses.Stopped stop) ends live =
+    absurd (let no : false ≡ true = sym (ap is_none ends.0) ∙ live in cc)
+
 -- the turn over the kernel's own setting
-at_frames : (k : Kernel) (number steps : ℕ) (host host' : List ℕ) (t t' : Tenant) (now now' : Counts) (new between : Option (List ℕ))
-    (pause : Pause) (frames n : ℕ) → t.guest.frames ≡ frames → number ≡ n
-    → TurnAs (wedge k.image k.script.list t.guest.frames) (tag_of number) (t.guest.step + steps)
-    (state_of of_roots (wedge k.image k.script.list t.guest.frames) t.guest host)
-    (state_of of_roots (wedge k.image k.script.list t.guest.frames) t'.guest host')
-    now now' new between (pages_kept of_roots t.guest.shadows host) t.guest.fills t'.guest.fills (Ok pause)
-    → TurnAs (alone k frames) (tag_of n) (t.guest.step + steps)
-    (state_of of_roots (alone k frames) t.guest host)
+abbrev TurnOver : (k : Kernel) (n steps : ℕ) (pool : Pool) (host host' : List ℕ) (t t' : Tenant) (now now' : Counts)
+    (new between : Option (List ℕ)) (pause : Pause) (frames : ℕ) → Type 0
+TurnOver k n steps pool host host' t t' now now' new between pause frames =
+    (turn : TurnAs (alone k frames) (tag_of n) (t.guest.step + steps) (state_of of_roots (alone k frames) t.guest host)
     (state_of of_roots (alone k frames) t'.guest host')
-    now now' new between (pages_kept of_roots t.guest.shadows host) t.guest.fills t'.guest.fills (Ok pause)
-at_frames k number steps host host' t t' now now' new between pause frames n is same turn =
-    subst (λ (x : ℕ). TurnAs (alone k frames) (tag_of x) (t.guest.step + steps) (state_of of_roots (alone k frames) t.guest host)
-    (state_of of_roots (alone k frames) t'.guest host') now now' new between (pages_kept of_roots t.guest.shadows host) t.guest.fills
-    t'.guest.fills (Ok pause)) same
-    (subst (λ (f : ℕ). TurnAs (alone k f) (tag_of number) (t.guest.step + steps) (state_of of_roots (alone k f) t.guest host)
-    (state_of of_roots (alone k f) t'.guest host') now now' new between (pages_kept of_roots t.guest.shadows host) t.guest.fills
-    t'.guest.fills (Ok pause)) is turn)
+    now now' new between (pages_kept of_roots t.guest.shadows host) t.guest.fills t'.guest.fills (Ok pause))
+    × TurnKept (alone k frames) (state_of of_roots (alone k frames) t.guest host) turn.sets turn.last turn.end
+    (knowing_in (alone k frames) k (scene t.guest pool host) (scene t'.guest pool host')) (Ok pause)
+
+at_frames : (k : Kernel) (number steps : ℕ) (pool : Pool) (host host' : List ℕ) (t t' : Tenant) (now now' : Counts)
+    (new between : Option (List ℕ)) (pause : Pause) (frames n : ℕ) → t.guest.frames ≡ frames → number ≡ n
+    → TurnOver k number steps pool host host' t t' now now' new between pause t.guest.frames
+    → TurnOver k n steps pool host host' t t' now now' new between pause frames
+at_frames k number steps pool host host' t t' now now' new between pause frames n is same turn =
+    subst (λ (x : ℕ). TurnOver k x steps pool host host' t t' now now' new between pause frames) same
+    (subst (λ (f : ℕ). TurnOver k number steps pool host host' t t' now now' new between pause f) is turn)
+
+-- where a turn begins with what is known, its sets keep the rule
+by_since : (frames : ℕ) (since : Since) (k : Kernel) (s : Seat) (P : List Taken → Type 0) → s.live ≡ true → IsKnownSince frames k s since
+    → (n : ℕ) → ((past : List Taken) → 464 ≤ n → ((past ≡ []) × IsBare s)
+    ⊎ (Roomy past → IsCarried of_roots (alone k frames) past (state_of of_roots (alone k frames) s.running s.memory) s.running.shadows
+    s.memory) → P past) → IfSome (since_in n since) P
+by_since frames since k s P live known n f = by (nat_le 464 n) refl since known
+  where
+    by : (b : Bool) → nat_le 464 n ≡ b → (since : Since) → IsKnownSince frames k s since → IfSome (if b then since else None) P
+    by false is since known = tt
+    by true is None known = tt
+    by true is (Some past) known = f past (leb-true 464 n is) (known live)
+
+-- and what is known after it
+then_known : (frames : ℕ) (now : Since) (k : Kernel) (s : Seat) (steps : List Taken) → IfSome now (λ past. s.live ≡ true
+    → (Roomy (past ++ steps) → IsCarried of_roots (alone k frames) (past ++ steps)
+    (state_of of_roots (alone k frames) s.running s.memory) s.running.shadows s.memory))
+    → IsKnownSince frames k s (since_then steps now)
+then_known frames None k s steps h = tt
+then_known frames (Some past) k s steps h = λ live. inr (h live)
 
 same_counts : (c : Counts) (retired passed : ℕ) → c.retired ≡ retired → c.passed ≡ passed
     → c ≡ record { retired = retired; passed = passed }
@@ -193,12 +232,22 @@ module _ (kernels : List Kernel) (frames : ℕ) (whole done : List Slice) (piece
           omega (arith, most, step)
 
       module _ (t' : Tenant) (pool' : Pool) (host' : List ℕ) (now' : Counts) (new' : Option (List ℕ))
-          (h : HasTurned k slice.kernel slice.steps host host' t t' now now' new new') (went : HasGoneOn k pool pool' host host' t t') where
+          (h : HasTurned k slice.kernel slice.steps pool host host' t t' now now' new new')
+          (went : HasGoneOn k pool pool' host host' t t') where
+        over : TurnOver k present slice.steps pool host host' t t' now now' new h.between h.pause frames
+        over =
+            at_frames k slice.kernel slice.steps pool host host' t t' now now' new h.between h.pause frames present frames_are (sym here)
+            (h.turn, h.kept)
+
         turn : TurnAs (alone k frames) (tag_of present) (t.guest.step + slice.steps) (state_of of_roots (alone k frames) t.guest host)
             (state_of of_roots (alone k frames) t'.guest host') now now' new h.between (pages_kept of_roots t.guest.shadows host)
             t.guest.fills t'.guest.fills (Ok h.pause)
-        turn =
-            at_frames k slice.kernel slice.steps host host' t t' now now' new h.between h.pause frames present frames_are (sym here) h.turn
+        turn = over.0
+
+        kept : TurnKept (alone k frames) (state_of of_roots (alone k frames) t.guest host) turn.sets turn.last turn.end
+            (knowing_in (alone k frames) k (scene t.guest pool host) (scene t'.guest pool host')) (Ok h.pause)
+        unfolding turn
+        kept = over.1
 
         made : Turned present slice.steps frames whole done slice pieces k host host' t t' now now' new h.between new' (sym here) refl
             within grows may_go.filled h.few stands_live turn.reports
@@ -291,36 +340,96 @@ module _ (kernels : List Kernel) (frames : ℕ) (whole done : List Slice) (piece
               omega (arith, up, few, steps, most, was, length-append done (slice ∷ [])));
         }
 
-        makes : MakesTurn kernels frames slice p (record { tenants = ts; pool = pool; present = present; memory = host })
-            (record { tenants = set ts present t'; pool = pool'; present = present; memory = host' })
-        unfolding p
-        makes = record {
-          number = (refl, refl);
-          kernel = k;
-          kernel_is = λ e. get_or_any kernels present e dk known;
-          tenant = t;
-          tenant_is = λ e. get_or_any ts present e d b.rooms.there;
-          then_ = t';
-          others = refl;
-          ram = went.ram;
-          keeps = went.keeps;
-          sets = turn.sets;
-          last = turn.last;
-          end = turn.end;
-          pause = h.pause;
-          steps = turn.steps;
-          ends = turn.ends;
-          filled = turn.each_filled;
-          piece = (refl, refl);
-          stop_is = stops_so slice.kernel t' h.between new' h.pause h.ends;
-        }
+        abbrev ready : Stage
+        ready = record { tenants = ts; pool = pool; present = present; memory = host }
+
+        abbrev done_so : Stage
+        done_so = record { tenants = set ts present t'; pool = pool'; present = present; memory = host' }
+
+        module _ (laws : CarryLaws) (since : ℕ → Since) (known_before : AreKnown kernels frames since ready) where
+          abbrev since_now : Since
+          since_now = since_in (length (free_list pool host) + t.guest.held) (since present)
+
+          abbrev since_after : ℕ → Since
+          since_after = turned_since present
+              (since_then (steps_by (alone k frames) (state_of of_roots (alone k frames) t.guest host) turn.sets) since_now) since
+
+          here_known : IsKnownSince frames k (seat_here k host t) (since present)
+          here_known = known_here frames host present since kernels ts dk d b.rooms.there known known_before
+
+          -- by what is known of it
+          by_known : (P : List Taken → Type 0)
+              → ((past : List Taken) → BeginsKnown of_roots k.image k.script.list (scene t.guest pool host) false past → P past)
+              → IfSome since_now P
+          by_known P f =
+              by_since frames (since present) k (seat_here k host t) P (ap is_none live) here_known
+              (length (free_list pool host) + t.guest.held)
+              (λ past ample h. f past (elim h [
+                | inl bare ↦ inl (bare.0, record { empty_set = bare.1.0; two = bare.1.1; ample = ample; silent = refl })
+                | inr carried ↦ inr (
+                  λ roomy. subst (λ (f : ℕ). IsCarried of_roots (alone k f) past (state_of of_roots (alone k f) t.guest host)
+                      t.guest.shadows host) (sym frames_are) (carried roomy),
+                  ample,
+                  refl,
+                )
+              ]))
+
+          makes : MakesTurn kernels frames slice p ready done_so since since_after
+          unfolding p
+          makes = record {
+            number = (refl, refl);
+            kernel = k;
+            kernel_is = λ e. get_or_any kernels present e dk known;
+            tenant = t;
+            tenant_is = λ e. get_or_any ts present e d b.rooms.there;
+            then_ = t';
+            others = refl;
+            ram = went.ram;
+            keeps = went.keeps;
+            sets = turn.sets;
+            last = turn.last;
+            end = turn.end;
+            pause = h.pause;
+            steps = turn.steps;
+            ends = turn.ends;
+            filled = turn.each_filled;
+            piece = (refl, refl);
+            stop_is = stops_so slice.kernel t' h.between new' h.pause h.ends;
+            since_now = since_now;
+            since_is = refl;
+            kept = by_known (λ past. KeptAfter (alone k frames) past (state_of of_roots (alone k frames) t.guest host)
+                (turn.sets ++ turn.end ∷ [])) kept.kept;
+            left = by_known (λ past. IfReached (Ok h.pause) (IsLeftAfter (alone k frames) past
+                (steps_by (alone k frames) (state_of of_roots (alone k frames) t.guest host) turn.sets) turn.last turn.end)) kept.left;
+            since_goes = refl;
+          }
+
+          known_then : AreKnown kernels frames since_after done_so
+          known_then =
+              let sp = split frames host host' present 0 present kernels ts dk d t' (omega arith) b.rooms.there known b.rooms.theirs in
+              let same = others_know frames pool pool' host host' sp.before sp.after (seat_here k host t) (seat_here k host' t')
+              (subst (λ (l : List Seat). AreApart frames pool host l) sp.is b.apart) went.keeps stands in
+              let at = sp.len in
+              subst (λ (l : List Seat). EachKnown 0 frames since_after kernels l) (sym sp.is')
+              (known_moves laws frames since since_after 0 present kernels sp.before (map (behind_as frames host') sp.before) sp.after
+              (map (behind_as frames host') sp.after) (seat_here k host t) (seat_here k host' t') dk (omega (arith, at)) same.0 same.1
+              (λ j other. turned_other present since j other _)
+              (λ k' is was. subst (λ (x : Kernel). IsKnownSince frames x (seat_here k host' t') (since_after present))
+              (sym (is ∙ ap (λ (i : ℕ). get_or kernels i dk) (sym at)))
+              (subst (IsKnownSince frames k (seat_here k host' t')) (sym (turned_here present since _))
+              (then_known frames since_now k (seat_here k host' t')
+              (steps_by (alone k frames) (state_of of_roots (alone k frames) t.guest host) turn.sets)
+              (by_known _ (λ past begins now_live. reached_so h.pause _ (kept.carried past begins)
+              (live_reached slice.kernel t' h.between new' h.pause h.ends now_live))))))
+              (subst (λ (l : List Seat). EachKnown 0 frames since kernels l) sp.is known_before))
 
         pub went_between : (p : Piece)
-            × MakesTurn kernels frames slice p (record { tenants = ts; pool = pool; present = present; memory = host })
-            (record { tenants = set ts present t'; pool = pool'; present = present; memory = host' })
             × IsBetween kernels frames whole (done ++ slice ∷ []) (pieces ++ p ∷ []) (set ts present t') pool' present host'
             before now' old new'
-        went_between = (p, makes, betweens)
+            × (CarryLaws → (since : ℕ → Since) → AreKnown kernels frames since ready
+            → (then_ : ℕ → Since) × MakesTurn kernels frames slice p ready done_so since then_ × AreKnown kernels frames then_ done_so)
+        went_between =
+            (p, betweens, λ laws since known. (since_after laws since known, makes laws since known, known_then laws since known))
 
     -- a kernel that has met a stop before
     module _ (d : Tenant) (stop : Stop) (is : (get_or ts slice.kernel d).stop ≡ Some stop) where

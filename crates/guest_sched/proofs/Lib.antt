@@ -11,6 +11,7 @@ pub mod Stays
 pub mod Apart
 pub mod Brought
 pub mod ToldPuts
+pub mod Knowing
 pub mod Released
 pub mod Legs
 pub mod Turning
@@ -24,6 +25,7 @@ pub mod Ready
 pub mod Fronts
 pub mod Gone
 pub mod Rooms
+pub mod Knows
 pub mod Ways
 pub mod Rounding
 pub mod LineEnds

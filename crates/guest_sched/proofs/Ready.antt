@@ -7,13 +7,16 @@ use Rattle.ia32_types.specs.declared.stop.Stop.{Stop}
 use Rattle.frame_pool.specs.Pool.{count_of}
 use Rattle.frame_pool.specs.declared.Pool.{Pool}
 use Rattle.wedge_core.specs.Slices.{Counts}
+use Rattle.wedge_step.specs.CarryLaws.{CarryLaws}
 use Rattle.guest_sched.specs.Apart.{MayGoOn, AreApart, EachStays}
 use Rattle.guest_sched.specs.Between.{IsNext, stops_of}
+use Rattle.guest_sched.specs.Known.{AreKnown, EachKnown}
 use Rattle.guest_sched.specs.Pieces.{Piece}
 use Rattle.guest_sched.specs.Releases.{IsRoomMade}
 use Rattle.guest_sched.specs.Rounds.{BeginsTurn, ComesIn, HasBegunRound, MakesTurn}
 use Rattle.guest_sched.specs.Seating.{seats_from, HasBrought, HasMadeRoom, GoesOn, HasGoneOn}
 use Rattle.guest_sched.specs.SharedRuns.{FailsInTurn}
+use Rattle.guest_sched.specs.Since.{Since, released_since}
 use Rattle.guest_sched.specs.Stages.{stage}
 use Rattle.guest_sched.specs.Went.{HasFailed}
 use Rattle.guest_sched.specs.declared.kernel.Kernel.{Kernel}
@@ -23,6 +26,7 @@ use Rattle.guest_sched.specs.declared.tenants.Tenants.{Tenants}
 use Rattle.guest_sched.proofs.Wide.{HasTurned, IsBetween}
 use Rattle.guest_sched.proofs.Between.{next_slice, brought_between, roomed_between}
 use Rattle.guest_sched.proofs.Furthered.{frames_are, may_go, within, went_between, failed_between}
+use Rattle.guest_sched.proofs.Knows.{room_known}
 
 abbrev pub counts_of : ℕ → ℕ → Counts
 counts_of retired passed = record { retired = retired; passed = passed }
@@ -75,6 +79,26 @@ module _ (kernels : List Kernel) (whole done : List Slice) (pieces : List Piece)
         pub present_is : s2.present ≡ n
         present_is = rest2.1 ∙ rest1.2
 
+        -- what is known of translations, where that kernel stands in the host's memory and others gave way
+        pub known_at : (laws : CarryLaws) (room : IsRoomMade (stage s1 host1) (stage s2 host2)) (since : ℕ → Since)
+            → AreKnown kernels s0.frames since (stage s0 host0)
+            → AreKnown kernels s0.frames (released_since room.count n since)
+            (record { tenants = s2.list.items; pool = s2.pool; present = n; memory = host2 })
+        known_at laws room since known =
+            let b1 = brought_at in
+            let f = s0.frames in
+            let brought_known : AreKnown kernels f since (stage s1 host1) =
+            subst (λ (q : ℕ). EachKnown 0 f since kernels (seats_from f host1 q 0 kernels s1.list.items)) (sym rest1.2)
+            (subst (EachKnown 0 f since kernels) (sym (brought.seats kernels)) known) in
+            let r = room_known laws kernels f since room.count (stage s1 host1) (stage s2 host2) room.first room.within
+            (sym b1.rooms.len) brought.rooms
+            (subst (λ (x : ℕ). AreApart x s1.pool host1 (seats_from x host1 s1.present 0 kernels s1.list.items)) rest1.1 b1.apart)
+            brought_known in
+            subst (λ (q : ℕ). EachKnown 0 f (released_since room.count q since) kernels (seats_from f host2 n 0 kernels s2.list.items))
+            rest1.2
+            (subst (λ (q : ℕ). EachKnown 0 f (released_since room.count s1.present since) kernels
+            (seats_from f host2 q 0 kernels s2.list.items)) present_is r.known)
+
         -- which stop a kernel has met
         pub stop_same : (d : Tenant) → (get_or s2.list.items n d).stop ≡ (get_or s0.list.items n d).stop
         stop_same d =
@@ -98,17 +122,22 @@ met_of (Some stop) b e f = (stop, refl)
 pub comes_in : (slice : Slice) (s0 s1 s2 : Tenants) (host0 host1 host2 : List ℕ)
     → ((e : Tenant) → (get_or s0.list.items slice.kernel e).stop ≡ None)
     → HasBrought s0.frames host0 host1 s0.present slice.kernel s0.list.items s1.list.items → s1.pool ≡ s0.pool → s1.present ≡ slice.kernel
-    → s2.present ≡ slice.kernel → IsRoomMade (stage s1 host1) (stage s2 host2)
-    → ComesIn s0.frames slice (stage s0 host0) (record { tenants = s2.list.items; pool = s2.pool; present = slice.kernel; memory = host2 })
-comes_in slice s0 s1 s2 host0 host1 host2 live brought pool present there room = record {
-  live = live;
-  brought = stage s1 host1;
-  bring = subst (λ (n : ℕ). HasBrought s0.frames host0 host1 s0.present n s0.list.items s1.list.items) (sym present) brought;
-  same_pool = pool;
-  present = present;
-  room = subst (λ (n : ℕ). IsRoomMade (stage s1 host1) (record { tenants = s2.list.items; pool = s2.pool; present = n; memory = host2 }))
-      there room;
-}
+    → s2.present ≡ slice.kernel → (room : IsRoomMade (stage s1 host1) (stage s2 host2))
+    → (comes : ComesIn s0.frames slice (stage s0 host0)
+    (record { tenants = s2.list.items; pool = s2.pool; present = slice.kernel; memory = host2 })) × (comes.room.count ≡ room.count)
+comes_in slice s0 s1 s2 host0 host1 host2 live brought pool present there room =
+    let made = subst (λ (n : ℕ). (made : IsRoomMade (stage s1 host1)
+    (record { tenants = s2.list.items; pool = s2.pool; present = n; memory = host2 })) × (made.count ≡ room.count)) there (room, refl) in (
+      record {
+        live = live;
+        brought = stage s1 host1;
+        bring = subst (λ (n : ℕ). HasBrought s0.frames host0 host1 s0.present n s0.list.items s1.list.items) (sym present) brought;
+        same_pool = pool;
+        present = present;
+        room = made.0;
+      },
+      made.1,
+    )
 
 -- a kernel between turns, in the host's memory, whose turn comes next
 module _ (kernels : List Kernel) (frames : ℕ) (whole done : List Slice) (pieces : List Piece) (ts : List Tenant) (pool : Pool)
@@ -140,16 +169,21 @@ module _ (kernels : List Kernel) (frames : ℕ) (whole done : List Slice) (piece
         omega (arith, w, same, most)
 
     pub went_at : (t' : Tenant) (pool' : Pool) (host' : List ℕ) (now' : Counts) (new' : Option (List ℕ))
-        → HasTurned k slice.kernel slice.steps host host' t t' now now' new new' → HasGoneOn k pool pool' host host' t t'
-        → (p : Piece) × MakesTurn kernels frames slice p (record { tenants = ts; pool = pool; present = slice.kernel; memory = host })
-        (record { tenants = set ts slice.kernel t'; pool = pool'; present = slice.kernel; memory = host' })
-        × IsBetween kernels frames whole (done ++ slice ∷ []) (pieces ++ p ∷ []) (set ts slice.kernel t') pool' slice.kernel host'
-        before now' old new'
+        → HasTurned k slice.kernel slice.steps pool host host' t t' now now' new new' → HasGoneOn k pool pool' host host' t t'
+        → (p : Piece) × IsBetween kernels frames whole (done ++ slice ∷ []) (pieces ++ p ∷ []) (set ts slice.kernel t') pool' slice.kernel
+        host' before now' old new'
+        × (CarryLaws → (since : ℕ → Since)
+        → AreKnown kernels frames since (record { tenants = ts; pool = pool; present = slice.kernel; memory = host })
+        → (then_ : ℕ → Since)
+        × MakesTurn kernels frames slice p (record { tenants = ts; pool = pool; present = slice.kernel; memory = host })
+        (record { tenants = set ts slice.kernel t'; pool = pool'; present = slice.kernel; memory = host' }) since then_
+        × AreKnown kernels frames then_
+        (record { tenants = set ts slice.kernel t'; pool = pool'; present = slice.kernel; memory = host' }))
     went_at t' pool' host' now' new' turned gone =
         went_between kernels frames whole done pieces ts pool slice.kernel host before now old new b slice next refl k t live_at t'
         pool' host' now' new'
-        (subst (λ (x : Kernel). HasTurned x slice.kernel slice.steps host host' (get_or ts slice.kernel t) t' now now' new new') k_is
-        (subst (λ (x : Tenant). HasTurned k slice.kernel slice.steps host host' x t' now now' new new') t_is turned))
+        (subst (λ (x : Kernel). HasTurned x slice.kernel slice.steps pool host host' (get_or ts slice.kernel t) t' now now' new new') k_is
+        (subst (λ (x : Tenant). HasTurned k slice.kernel slice.steps pool host host' x t' now now' new new') t_is turned))
         (subst (λ (x : Kernel). HasGoneOn x pool pool' host host' (get_or ts slice.kernel t) t') k_is
         (subst (λ (x : Tenant). HasGoneOn k pool pool' host host' x t') t_is gone))
 

@@ -28,7 +28,8 @@ use Rattle.wedge_step.proofs.Stays.{kept_same}
 use Rattle.guest_sched.specs.Dropped.{AllDropped, released}
 use Rattle.std.specs.Prelude.{map}
 use Rattle.guest_sched.specs.Apart.{Seat, held_by, HoldsFrames, MayGoOn, IsSeated, AreApart, behind_as, StaysSo, EachStays}
-use Rattle.guest_sched.proofs.Apart.{laid_length, laid_front, laid_behind, one_moves, seated_right, all_append, others_same}
+use Rattle.guest_sched.specs.Known.{IsBare}
+use Rattle.guest_sched.proofs.Apart.{OthersKnow, laid_length, laid_front, laid_behind, one_moves, seated_right, all_append, others_know, others_same}
 use Rattle.guest_sched.proofs.Stays.{state_with}
 
 none_same : (olds news : List OtherRoot) → AreSame olds news → olds ≡ [] → news ≡ []
@@ -195,6 +196,11 @@ module _ (frames : ℕ) (p p' : Pool) (host host' : List ℕ) (s : Seat) (new : 
         state_by m {ram} {ram'} {set'} a b =
             ap (λ (l : List ℕ). state_with s.running l set') a ∙ ap (λ (x : Set). state_with s.running ram x) b
 
+    -- it keeps nothing
+    pub released_bare : IsBare (released frames host' s new)
+    unfolding then_memory
+    released_bare = (set_same ∙ d.entries, refl)
+
     pub released_length : length (released frames host' s new).memory ≡ length host'
     unfolding then_memory
     released_length = size'
@@ -224,6 +230,22 @@ release_same frames p p' host host' before after s new h d =
     join_stays frames before (map (behind_as frames host') before) (s ∷ after)
     (released frames host' s new ∷ map (behind_as frames host') after) o.0
     (released_same frames p p' host host' s new d here.0 here.1 here.2 h.behind few, o.1)
+
+-- and what is known of their translations is known still, and of its own that there are none
+pub release_knows : (frames : ℕ) (p p' : Pool) (host host' : List ℕ) (before after : List Seat) (s : Seat) (new : Roots)
+    → AreApart frames p host (before ++ s ∷ after)
+    → AllDropped p p' host host' s.running.shadows new s.running.fills
+    → OthersKnow frames host' before after × IsBare (released frames host' s new)
+release_knows frames p p' host host' before after s new h d =
+    let here = seated_right frames p host before (s ∷ after) h.seated in
+    let sums = all_append before (s ∷ after) in
+    let all = h.all in
+    let small = h.few in
+    let few : length (free_list p host) + length (held_by s) < 2 ^ 32 = omega (arith, sums, all, small) in (
+      others_know frames p p' host host' before after s (released frames host' s new) h
+          (released_keeps frames p p' host host' s new d here.0 here.1 here.2 h.behind few) d.owns.stands,
+      released_bare frames p p' host host' s new d here.0 here.1 here.2 h.behind few,
+    )
 
 -- the others stay as they are
 pub one_releases : (frames : ℕ) (p p' : Pool) (host host' : List ℕ) (before after : List Seat) (s : Seat) (new : Roots)

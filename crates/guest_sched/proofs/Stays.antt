@@ -1,5 +1,5 @@
 -- A kernel whose frames weren't written stays as it is.
-use Rattle.std.proofs.Common.{◌≡◌, ℕ, ◌+◌, ◌*◌, ◌%◌, ◌^◌, ◌≤◌, ◌<◌, List, Option, inl, length, take, refl, ap, sym, subst, ◌∙◌, arith}
+use Rattle.std.proofs.Common.{◌≡◌, ℕ, ◌+◌, ◌*◌, ◌%◌, ◌^◌, ◌≤◌, ◌<◌, List, Option, Some, None, inl, inr, length, take, refl, ap, sym, subst, ◌∙◌, arith}
 use Rattle.std.specs.Option.{ForSome}
 use Rattle.frame_pool.specs.Pool.{base_of, free_list, Stands, IsOut, SameFrames}
 use Rattle.frame_pool.specs.declared.Pool.{Pool}
@@ -12,10 +12,13 @@ use Rattle.shadow_tables.specs.OtherRoot.{AreSame}
 use Rattle.shadow_tables.specs.Entries.{entries_of}
 use Rattle.shadow_tables.specs.Slots.{Slot, SameSlots}
 use Rattle.shadow_tables.specs.Laws.{same-entries}
+use Rattle.shadow_cache.specs.Laws.{same-has_tables_under}
+use Rattle.shadow_cache.specs.Roots.{pairs_of}
 use Rattle.shadow_cache.specs.Views as roots
 use Rattle.wedge_core.specs.OfRoots.{of_roots}
 use Rattle.shadow_cache.specs.Standing as standing
 use Rattle.shadow_cache.specs.declared.roots.Roots.{Roots}
+use Rattle.wedge_step.specs.CarryLaws.{CarryLaws}
 use Rattle.wedge_step.specs.Ready.{IsReady, AreReady, IsFoundIn}
 use Rattle.wedge_step.specs.Standing.{IsHeld, IsOpenSlot, ground, state_of}
 use Rattle.wedge_step.specs.declared.running.Running.{Running}
@@ -23,7 +26,12 @@ use Rattle.native_steps.specs.Mirrors.{shown}
 use Rattle.wedge_step.proofs.Memories.{host_same, shown_same, text_within}
 use Rattle.wedge_step.proofs.Shedding.{same_shed, all_ready_shed}
 use Rattle.wedge_step.proofs.Stays.{kept_same}
+use Rattle.wedge_core.proofs.SliceStarts.{begun_carries}
 use Rattle.guest_sched.specs.Apart.{Seat, held_by, HoldsFrames, MayGoOn, IsSeated, StaysSo}
+use Rattle.guest_sched.specs.Known.{IsKnownSince}
+use Rattle.guest_sched.specs.Shared.{alone}
+use Rattle.guest_sched.specs.Since.{Since}
+use Rattle.guest_sched.specs.declared.kernel.Kernel.{Kernel}
 
 abbrev pub state_with : Running Roots → List ℕ → Set → State
 state_with g ram set = record { cpu = g.cpu; ram = ram; set = set; board = g.board; step = g.step }
@@ -62,6 +70,20 @@ module _ (frames : ℕ) (p p' : Pool) (s : Seat) (then_ : List ℕ) (size : leng
 
       stand_still : ∥ roots.stands s.running.shadows then_ ∥₁
       stand_still = standing.stays_in s.running.shadows s.memory then_ h.stand same
+
+      -- and so does what is known of its translations
+      known_still : CarryLaws → (k : Kernel) (since : Since) → IsKnownSince frames k s since
+          → IsKnownSince frames k (record s { memory = then_ }) since
+      known_still laws k None known = tt
+      known_still laws k (Some past) known = λ live. elim (known live) [
+        | inl bare ↦ inl (bare.0, (set_same ∙ bare.1.0, bare.1.1))
+        | inr carried ↦ inr (λ roomy.
+            let m = alone k frames in
+            begun_carries of_roots laws m past (state_of of_roots m s.running s.memory) (state_of of_roots m s.running then_)
+            s.running.shadows s.running.shadows s.memory then_ (state_still m refl) set_same
+            (record { notes = λ frame e. e; marks = λ e. e; others = other_roots_same })
+            (λ indices opened. same-has_tables_under (pairs_of s.running.shadows) s.memory then_ indices same opened) (carried roomy))
+      ]
 
       owns_still : Owns p' then_ (roots.frames s.running.shadows then_)
       owns_still = subst (λ (fs : List ℕ). Owns p' then_ fs) (sym frames_same) (record { stands = stands; out = out; once = h.owns.once })
@@ -128,6 +150,10 @@ module _ (frames : ℕ) (p p' : Pool) (s : Seat) (then_ : List ℕ) (size : leng
 
     pub same_still : IsSeated frames p s → StaysSo frames s (record s { memory = then_ })
     same_still h = stays_still h.holds
+
+    pub knows_still : IsSeated frames p s → CarryLaws → (k : Kernel) (since : Since) → IsKnownSince frames k s since
+        → IsKnownSince frames k (record s { memory = then_ }) since
+    knows_still h = known_still h.holds
 
     pub held_still : IsSeated frames p s → roots.frames s.running.shadows then_ ≡ held_by s
     held_still h = frames_same h.holds

@@ -19,9 +19,10 @@ TurnAs m tag bound old new before after taken tells pages fills filled result =
     turns.TurnAs m tag bound old new (record { before = before; after = after; told = taken; tells = tells })
     (record { pages = pages; fills = fills; filled = filled }) result
 
-abbrev pub HasTurned : Kernel → ℕ → ℕ → List ℕ → List ℕ → Tenant → Tenant → Counts → Counts → Option (List ℕ) → Option (List ℕ) → Type 0
-HasTurned kernel number steps host host' old new before after taken tells =
-    went.HasTurned kernel number steps host host' old new (record { before = before; after = after; told = taken; tells = tells })
+abbrev pub HasTurned : Kernel → ℕ → ℕ → Pool → List ℕ → List ℕ → Tenant → Tenant → Counts → Counts → Option (List ℕ) → Option (List ℕ)
+    → Type 0
+HasTurned kernel number steps pool host host' old new before after taken tells =
+    went.HasTurned kernel number steps pool host host' old new (record { before = before; after = after; told = taken; tells = tells })
 
 abbrev pub IsBetween : List Kernel → ℕ → List Slice → List Slice → List Piece → List Tenant → Pool → ℕ → List ℕ → Counts → Counts
     → Option (List ℕ) → Option (List ℕ) → Type 0

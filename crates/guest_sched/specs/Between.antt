@@ -13,6 +13,7 @@ use Rattle.wedge_step.specs.Standing.{state_of}
 use Rattle.wedge_core.specs.Slices.{Counts, Outward}
 use Rattle.guest_sched.specs.Admitting.{IsAdmitted}
 use Rattle.guest_sched.specs.Apart.{Seat, AreApart}
+use Rattle.guest_sched.specs.Known.{AreKnown}
 use Rattle.guest_sched.specs.Legs.{HasRun, HasStopped}
 use Rattle.guest_sched.specs.Pieces.{Piece, AreTurns, has_stopped, piece_text, reports_of, own_text, counts_over}
 use Rattle.guest_sched.specs.Bounds.{bound_of}
@@ -21,6 +22,7 @@ use Rattle.guest_sched.specs.Schedules.{IsSchedule}
 use Rattle.guest_sched.specs.Seating.{seats_from}
 use Rattle.guest_sched.specs.Shared.{alone, sites_in, AllFit, FirstTooSmall}
 use Rattle.guest_sched.specs.SharedRuns.{FailsInTurn}
+use Rattle.guest_sched.specs.Since.{Since, none_since}
 use Rattle.guest_sched.specs.Stages.{Stage, stage}
 use Rattle.guest_sched.specs.declared.kernel.Kernel.{Kernel}
 use Rattle.guest_sched.specs.declared.kernel.SharedFault.{SharedFault}
@@ -91,21 +93,22 @@ pub record StandsNext (kernels : List Kernel) (frames : ℕ) (slice : Slice) (s 
   pub between : IsBetween kernels frames whole done pieces s (record { before = before; after = now; told = old; tells = new })
   pub few : before.retired ≤ 2 ^ 63
 
--- This turn goes its round, and what is known between two turns goes on over it.
+-- This turn goes its round, and what is known between two turns goes on over it, of translations too.
 abbrev pub TurnGoes : List Kernel → ℕ → Slice → Stage → Stage → Outward → Type 0
 TurnGoes kernels frames slice old new out =
     (whole done : List Slice) (pieces : List Piece) (before : Counts) (was : Option (List ℕ)) → IsNext (length kernels) whole done slice
     → IsBetween kernels frames whole done pieces old (record { before = before; after = out.before; told = was; tells = out.told })
-    → (p : Piece) × GoesRound kernels frames slice p old new
-    × IsBetween kernels frames whole (done ++ slice ∷ []) (pieces ++ p ∷ []) new
+    → (p : Piece) × IsBetween kernels frames whole (done ++ slice ∷ []) (pieces ++ p ∷ []) new
     (record { before = before; after = out.after; told = was; tells = out.tells })
+    × ((since : ℕ → Since) → AreKnown kernels frames since old
+    → (then_ : ℕ → Since) × GoesRound kernels frames slice p old new since then_ × AreKnown kernels frames then_ new)
 
 -- the sink has failed in it
 abbrev pub TurnFails : List Kernel → ℕ → Slice → Stage → Outward → Type 0
 TurnFails kernels frames slice old out =
     (whole done : List Slice) (pieces : List Piece) (before : Counts) (was : Option (List ℕ)) → IsNext (length kernels) whole done slice
     → IsBetween kernels frames whole done pieces old (record { before = before; after = out.before; told = was; tells = out.told })
-    → HasGoneRound kernels frames done pieces old → FailsInTurn kernels whole frames was out.tells
+    → (since : ℕ → Since) → HasGoneRound kernels frames done pieces old since → FailsInTurn kernels whole frames was out.tells
 
 -- Kernels that were admitted stand before the first turn of any schedule, with nothing put; or one of them has no room.
 abbrev pub AdmitRefused : List Kernel → ℕ → SharedFault → Type 0
@@ -117,6 +120,7 @@ abbrev pub AdmitsAs : List Kernel → ℕ → List ℕ → Result Tenants Shared
 AdmitsAs kernels frames host (Ok tenants) =
     AllFit frames kernels × (tenants.frames ≡ frames)
     × IsAdmitted kernels frames tenants.list.items tenants.pool tenants.present host
+    × AreKnown kernels frames none_since (stage tenants host)
     × ((whole : List Slice) (counts : Counts) (taken : Option (List ℕ)) → IsBetween kernels frames whole [] [] (stage tenants host)
     (record { before = counts; after = counts; told = taken; tells = taken }))
 AdmitsAs kernels frames host (Err refusal) = AdmitRefused kernels frames refusal

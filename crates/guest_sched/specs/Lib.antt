@@ -17,6 +17,8 @@ pub mod Legs
 pub mod Joined
 pub mod Stages
 pub mod Seating
+pub mod Since
+pub mod Known
 pub mod Releases
 pub mod Dropped
 pub mod Went

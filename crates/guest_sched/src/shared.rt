@@ -25,6 +25,7 @@ use host_cpl3::Host;
 use pv_io::{Failed, Sink};
 use run_trace::{End, Ended, Pause};
 use std::alloc::Global;
+use wedge_step::carry_laws;
 
 /// Runs several kernels on one host with one pool, in the turns of a schedule, and puts the text of each with the kernel's
 /// number before each line. Returns how each of them ended, in their order.
@@ -79,6 +80,7 @@ fn turn<H: Host, O: Sink>(
     ensures kept { OnOk result (O.faults out.new ≡ O.faults out.old) }
     ensures cause { OnErr result (Rose (O.faults out.old) (O.faults out.new)) }
 {
+    carry_laws();
     let number = slice.kernel as usize;
     if tenants.list[number].stop.is_some() {
         return Ok(());
@@ -111,7 +113,7 @@ fn go_on<H: Host, O: Sink>(
     requires script { is_script kernel.now.script.list ≡ true }
     requires bound { tenant.old.guest.step + slice.now.steps ≤ 2 ^ 40 }
     requires room { H.retired host.old + slice.now.steps < 2 ^ 64 }
-    ensures turned { OnOk result (HasTurned kernel.now slice.now.kernel slice.now.steps (H.bytes host.old) (H.bytes host.new)
+    ensures turned { OnOk result (HasTurned kernel.now slice.now.kernel slice.now.steps pool.old (H.bytes host.old) (H.bytes host.new)
         tenant.old tenant.new (outward H.Host O.Sink host.old host.new out.old out.new)) }
     ensures failed { OnErr result (HasFailed kernel.now slice.now.kernel slice.now.steps (H.bytes host.old) tenant.old
         (O.taken out.old) (O.taken out.new)) }

@@ -3,6 +3,7 @@ use Rattle.std.proofs.lemmas.List.{length-take-le, take_all, take_more}
 use Rattle.std.proofs.lemmas.Result.{err_from_is_err_and}
 use Rattle.guest_sched.specs.Admitting.{IsAdmitted, CantAdmit}
 use Rattle.guest_sched.specs.declared.kernel.Kernel.{Kernel}
+use Rattle.guest_sched.proofs.Knows.{known_first}
 use Rattle.guest_sched.proofs.Starting.{begins, first_refused}
 use Rattle.guest_sched.proofs.admit.admit_all.Goals as goal
 
@@ -31,6 +32,9 @@ returns-clause-admitted g c =
       is.fits,
       l.invariant.frames,
       is,
+      known_first c.args.frames l.tenants.pool (g.H.Host.bytes l.host) l.tenants.present 0 c.args.kernels.now.items
+          l.tenants.list.items is.len
+          is.apart.seated is.each (let two = is.two in omega (arith, two)),
       begins c.args.kernels.now.items c.args.frames l.tenants.list.items l.tenants.pool l.tenants.present (g.H.Host.bytes l.host) is
           c.requires.some.0 c.requires.some.1 c.requires.frames,
     )

@@ -47,7 +47,7 @@ gone_on kernel bound p p' host host' old new paused leaves own takes ram live = 
 
 pub returns-in_err-pause-clause-failed : goal.returns-in_err-pause-clause-failed
 returns-in_err-pause-clause-failed g c =
-    let t = c.in_err-pause.ensures.turn in
+    let t = c.in_err-pause.ensures.turn.0 in
     on_err c.from_residual.result
     (failed_in_steps c.args.kernel.now c.args.slice.now.kernel c.args.slice.now.steps (g.H.Host.bytes c.args.host.now) c.args.tenant.now
     (g.O.Sink.taken c.args.out.now) (g.O.Sink.taken c.steps_on.new.out) (g.O.Sink.taken c.steps_on.new.out)
@@ -55,7 +55,7 @@ returns-in_err-pause-clause-failed g c =
 
 pub returns-in_err-put_last-clause-failed : goal.returns-in_err-put_last-clause-failed
 returns-in_err-put_last-clause-failed g c =
-    let t = c.in_ok-pause.ensures.turn in
+    let t = c.in_ok-pause.ensures.turn.0 in
     on_err c.from_residual-in_err-put_last.result
     (failed_at_stop c.args.kernel.now c.args.slice.now.kernel c.args.slice.now.steps (g.H.Host.bytes c.args.host.now) c.args.tenant.now
     (g.O.Sink.taken c.args.out.now) (g.O.Sink.taken c.put_last.new.out) (g.O.Sink.taken c.steps_on.new.out)
@@ -74,7 +74,8 @@ returns-in_ok-put_last-clause-turned g c =
     record {
       pause = c.in_ok-pause.pause;
       between = between;
-      turn = c.in_ok-pause.ensures.turn;
+      turn = c.in_ok-pause.ensures.turn.0;
+      kept = c.in_ok-pause.ensures.turn.1;
       ends = subst (λ (p : Pause). EndsSo c.args.slice.now.kernel new between tells p) (sym c.in-Stopped.is) (refl, put);
       few = c.in_ok-pause.ensures.leaves.few;
     }
@@ -92,7 +93,8 @@ returns-in_default-clause-turned g c =
     record {
       pause = c.in_ok-pause.pause;
       between = between;
-      turn = c.in_ok-pause.ensures.turn;
+      turn = c.in_ok-pause.ensures.turn.0;
+      kept = c.in_ok-pause.ensures.turn.1;
       ends =
           subst (λ (p : Pause). EndsSo c.args.slice.now.kernel new between between p) (sym c.in_default.is) (c.requires.takes.fresh, refl);
       few = c.in_ok-pause.ensures.leaves.few;

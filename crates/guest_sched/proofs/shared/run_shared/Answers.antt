@@ -2,6 +2,8 @@ use Rattle.std.proofs.Common.{◌≡◌, ℕ, List, ◌+◌, ◌<◌, ◌∷◌,
 use Rattle.std.proofs.lemmas.List.{take_all, take_more}
 use Rattle.run_trace.specs.declared.items.Ended.{Ended}
 use Rattle.wedge_core.specs.Slices.{Counts}
+use Rattle.guest_sched.specs.Known.{AreKnown}
+use Rattle.guest_sched.specs.Since.{none_since}
 use Rattle.guest_sched.specs.Stages.{stage, ended_of}
 use Rattle.guest_sched.specs.Pieces.{shared_text}
 use Rattle.guest_sched.specs.Rounds.{AreRounds, GoesRound, HasGoneRound}
@@ -26,13 +28,15 @@ loop-slice-init g c =
     record {
       between = (
         [],
-        record { first = stage s host; admitted = all.2; rounds = refl },
+        none_since,
+        record { first = stage s host; admitted = all.2; rounds = (refl, refl) },
+        all.3,
         subst (λ (now : Counts). IsBetween c.args.kernels.now.items c.args.frames c.args.schedule.now.list [] [] s.list.items s.pool
             s.present host before now old old)
             (sym (counts_same (g.H.Host.retired c.admit_all.new.host) (g.H.Host.retired c.args.host.now)
             (g.H.Host.passed c.admit_all.new.host) (g.H.Host.passed c.args.host.now) c.in_ok-tenants.ensures.retired
             c.in_ok-tenants.ensures.passed))
-            (all.3 c.args.schedule.now.list before old),
+            (all.4 c.args.schedule.now.list before old),
       );
       frames = all.1;
       started = c.in_ok-tenants.ensures.started;
@@ -56,7 +60,7 @@ turn-requires-clause-next g c =
       old = g.O.Sink.taken c.args.out.now;
       next = is_next (length c.args.kernels.now.items) c.args.schedule.now.list c.deref-slice-items.result.now l.slice-index d same
           c.loop-slice-test.true c.requires.schedule;
-      between = l.invariant.between.2;
+      between = l.invariant.between.4;
       few = c.requires.room;
     })
 
@@ -76,12 +80,12 @@ returns-then-is_err g c =
     let between =
     subst (λ (n : ℕ). IsBetween c.args.kernels.now.items n whole (take l.slice-index whole) l.invariant.between.0 l.tenants.list.items
     l.tenants.pool l.tenants.present (g.H.Host.bytes l.host) before now old (g.O.Sink.taken l.out)) (sym l.invariant.frames)
-    l.invariant.between.2 in
+    l.invariant.between.4 in
     let gone =
     subst (λ (n : ℕ). HasGoneRound c.args.kernels.now.items n (take l.slice-index whole) l.invariant.between.0
-    (stage l.tenants (g.H.Host.bytes l.host))) (sym l.invariant.frames) l.invariant.between.1 in
+    (stage l.tenants (g.H.Host.bytes l.host)) l.invariant.between.1) (sym l.invariant.frames) l.invariant.between.2 in
     let fails = on_err c.turn.result yes c.turn.ensures.failed whole (take l.slice-index whole) l.invariant.between.0 before old
-    next between gone in
+    next between l.invariant.between.1 gone in
     record {
       shared = (
         c.in_ok-tenants.ensures.admitted.0,
@@ -108,9 +112,12 @@ loop-slice-preserved g c =
     let between =
     subst (λ (n : ℕ). IsBetween c.args.kernels.now.items n whole (take l.slice-index whole) l.invariant.between.0 l.tenants.list.items
     l.tenants.pool l.tenants.present (g.H.Host.bytes l.host) before now old (g.O.Sink.taken l.out)) (sym l.invariant.frames)
-    l.invariant.between.2 in
+    l.invariant.between.4 in
     let on = on_ok c.turn.result no c.turn.ensures.turned whole (take l.slice-index whole) l.invariant.between.0 before old next between in
-    let went = l.invariant.between.1 in
+    let went = l.invariant.between.2 in
+    let goes = on.2 l.invariant.between.1
+    (subst (λ (n : ℕ). AreKnown c.args.kernels.now.items n l.invariant.between.1 (stage l.tenants (g.H.Host.bytes l.host)))
+    (sym l.invariant.frames) l.invariant.between.3) in
     let within : l.slice-index < length whole = (let a = c.loop-slice-test.true in let b = ap length same in omega (arith, a, b)) in
     let done : take l.slice-index whole ++ get_or c.deref-slice-items.result.now l.slice-index d ∷ [] ≡ take (l.slice-index + 1) whole =
     ap (λ (s : List Slice). take l.slice-index whole ++ get_or s l.slice-index d ∷ []) same
@@ -118,25 +125,28 @@ loop-slice-preserved g c =
     record {
       between = (
         l.invariant.between.0 ++ on.0 ∷ [],
+        goes.0,
         record {
           first = went.first;
           admitted = went.admitted;
           rounds =
               subst (λ (s : List Slice). AreRounds c.args.kernels.now.items c.args.frames s (l.invariant.between.0 ++ on.0 ∷ []) went.first
-              (stage c.turn.new.tenants (g.H.Host.bytes c.turn.new.host))) done
+              (stage c.turn.new.tenants (g.H.Host.bytes c.turn.new.host)) none_since goes.0) done
               (rounds_on c.args.kernels.now.items c.args.frames (take l.slice-index whole) l.invariant.between.0
               (get_or c.deref-slice-items.result.now l.slice-index d) on.0 went.first (stage l.tenants (g.H.Host.bytes l.host))
-              (stage c.turn.new.tenants (g.H.Host.bytes c.turn.new.host)) went.rounds
+              (stage c.turn.new.tenants (g.H.Host.bytes c.turn.new.host)) none_since l.invariant.between.1 goes.0 went.rounds
               (subst (λ (n : ℕ). GoesRound c.args.kernels.now.items n (get_or c.deref-slice-items.result.now l.slice-index d) on.0
-              (stage l.tenants (g.H.Host.bytes l.host)) (stage c.turn.new.tenants (g.H.Host.bytes c.turn.new.host)))
-              l.invariant.frames on.1));
+              (stage l.tenants (g.H.Host.bytes l.host)) (stage c.turn.new.tenants (g.H.Host.bytes c.turn.new.host))
+              l.invariant.between.1 goes.0) l.invariant.frames goes.1));
         },
+        subst (λ (n : ℕ). AreKnown c.args.kernels.now.items n goes.0 (stage c.turn.new.tenants (g.H.Host.bytes c.turn.new.host)))
+            l.invariant.frames goes.2,
         subst (λ (n : ℕ). IsBetween c.args.kernels.now.items n whole (take (l.slice-index + 1) whole) (l.invariant.between.0 ++ on.0 ∷ [])
             c.turn.new.tenants.list.items c.turn.new.tenants.pool c.turn.new.tenants.present (g.H.Host.bytes c.turn.new.host) before then_
             old (g.O.Sink.taken c.turn.new.out)) l.invariant.frames
             (subst (λ (s : List Slice). IsBetween c.args.kernels.now.items l.tenants.frames whole s (l.invariant.between.0 ++ on.0 ∷ [])
             c.turn.new.tenants.list.items c.turn.new.tenants.pool c.turn.new.tenants.present (g.H.Host.bytes c.turn.new.host) before then_
-            old (g.O.Sink.taken c.turn.new.out)) done on.2),
+            old (g.O.Sink.taken c.turn.new.out)) done on.1),
       );
       frames = c.turn.ensures.frames ∙ l.invariant.frames;
       started = c.turn.ensures.started;
@@ -159,15 +169,16 @@ returns-in-Ok g c =
     let all : take l.slice-index whole ≡ whole =
     take_all l.slice-index whole (let a = c.loop-slice-test.false in let b = ap length same in omega (arith, a, b)) in
     let h = subst (λ (s : List Slice). IsBetween ks c.args.frames whole s l.invariant.between.0 ts l.tenants.pool l.tenants.present host
-    before now old mid) all l.invariant.between.2 in
-    let gone = subst (λ (s : List Slice). HasGoneRound ks c.args.frames s l.invariant.between.0 (stage l.tenants host)) all
-    l.invariant.between.1 in
+    before now old mid) all l.invariant.between.4 in
+    let gone = subst (λ (s : List Slice). HasGoneRound ks c.args.frames s l.invariant.between.0 (stage l.tenants host)
+    l.invariant.between.1) all l.invariant.between.2 in
     let text = shared_text l.invariant.between.0 (map ended_of ts) in
     record {
       shared = (
         text,
         subst (λ (e : List Ended). SharedRun ks whole c.args.frames before now host text e) (sym c.in-Ok.ensures.ended)
-            (ends_shared ks c.args.frames whole l.invariant.between.0 ts l.tenants.pool l.tenants.present host before now old mid h gone),
+            (ends_shared ks c.args.frames whole l.invariant.between.0 ts l.tenants.pool l.tenants.present host before now old mid h
+            l.invariant.between.1 gone),
         c.in_ok-tenants.ensures.admitted.0,
         ends_put ks c.args.frames whole l.invariant.between.0 ts l.tenants.pool l.tenants.present host before now old mid h
             (g.O.Sink.taken c.finish.new.out) c.in-Ok.ensures.ok,
@@ -191,13 +202,14 @@ returns g c =
     let all : take l.slice-index whole ≡ whole =
     take_all l.slice-index whole (let a = c.loop-slice-test.false in let b = ap length same in omega (arith, a, b)) in
     let h = subst (λ (s : List Slice). IsBetween ks c.args.frames whole s l.invariant.between.0 ts l.tenants.pool l.tenants.present host
-    before now old mid) all l.invariant.between.2 in
-    let gone = subst (λ (s : List Slice). HasGoneRound ks c.args.frames s l.invariant.between.0 (stage l.tenants host)) all
-    l.invariant.between.1 in
+    before now old mid) all l.invariant.between.4 in
+    let gone = subst (λ (s : List Slice). HasGoneRound ks c.args.frames s l.invariant.between.0 (stage l.tenants host)
+    l.invariant.between.1) all l.invariant.between.2 in
     record {
       shared = (
         c.in_ok-tenants.ensures.admitted.0,
-        inr (ends_fail ks c.args.frames whole l.invariant.between.0 ts l.tenants.pool l.tenants.present host before now old mid h gone
+        inr (ends_fail ks c.args.frames whole l.invariant.between.0 ts l.tenants.pool l.tenants.present host before now old mid h
+            l.invariant.between.1 gone
             (g.O.Sink.taken c.finish.new.out) c.in-Err.ensures.failed),
         rose_more (g.O.Sink.faults c.args.out.now) (g.O.Sink.faults l.out) (g.O.Sink.faults c.finish.new.out) l.invariant.kept
             c.in-Err.ensures.cause,

@@ -1,16 +1,27 @@
-use Rattle.std.proofs.Common.{◌≡◌, inl, inr, true, ◌<◌, [], ◌∷◌, ◌++◌, length, set, get_or, Some, None, refl, ap, sym, subst, ◌∙◌, arith}
+use Rattle.std.proofs.Common.{◌≡◌, inl, inr, ℕ, true, ◌<◌, List, [], ◌∷◌, ◌++◌, length, set, get_or, Some, None, refl, ap, sym, subst, ◌∙◌, arith}
 use Rattle.board.specs.ScriptForm.{is_script}
+use Rattle.frame_pool.specs.declared.Pool.{Pool}
+use Rattle.guest_sched.specs.Known.{AreKnown}
 use Rattle.guest_sched.specs.Pieces.{Piece}
-use Rattle.guest_sched.specs.Rounds.{GoesRound}
-use Rattle.guest_sched.specs.Stages.{stage}
+use Rattle.guest_sched.specs.Rounds.{GoesRound, MakesTurn}
+use Rattle.guest_sched.specs.Since.{Since, released_since}
+use Rattle.guest_sched.specs.Stages.{Stage, stage}
 use Rattle.guest_sched.specs.declared.kernel.Kernel.{Kernel}
 use Rattle.guest_sched.specs.declared.tenants.Tenant.{Tenant}
 use Rattle.guest_sched.proofs.Between.{next_slice}
 use Rattle.guest_sched.proofs.Brought.{get_or_any}
 use Rattle.guest_sched.proofs.Furthered.{skipped_between}
-use Rattle.guest_sched.proofs.Ready.{counts_of, counts_same, live_of, met_of, brought_at, ready_at, stop_same, goes_on_at, bound_at, room_at, comes_in, went_at, failed_at, on_ok_both, on_err_then}
+use Rattle.guest_sched.proofs.Ready.{counts_of, counts_same, live_of, met_of, brought_at, known_at, ready_at, stop_same, goes_on_at, bound_at, room_at, comes_in, went_at, failed_at, on_ok_both, on_err_then}
 use Rattle.guest_sched.proofs.shared.turn.Goals as goal
 use Rattle.guest_sched.proofs.Wide.{IsBetween}
+
+-- before the turn
+abbrev stage_ready : List Tenant → Pool → ℕ → List ℕ → Stage
+stage_ready ts pool present host = record { tenants = ts; pool = pool; present = present; memory = host }
+
+-- after the turn
+abbrev stage_of : List Tenant → ℕ → Tenant → Pool → List ℕ → ℕ → Stage
+stage_of ts n t pool host present = record { tenants = set ts n t; pool = pool; present = present; memory = host }
 
 pub index-requires : goal.index-requires
 index-requires g c =
@@ -30,14 +41,19 @@ returns-then-is_some-clause-turned g c whole done pieces before was next b =
     (counts_of (g.H.Host.retired c.args.host.now) (g.H.Host.passed c.args.host.now)) was (g.O.Sink.taken c.args.out.now)
     b c.args.slice.now next c.index.result.now met.0 (ap (λ (t : Tenant). t.stop) (sym c.index.ensures) ∙ is) in (
       x.0,
-      inl (record {
-        stop = met.0;
-        met = λ d. ap (λ (t : Tenant). t.stop)
-            (get_or_any c.args.tenants.now.list.items c.args.slice.now.kernel d c.index.result.now (omega (arith, n, low))
-            ∙ sym c.index.ensures) ∙ is;
-        same = refl;
-      }),
       x.1,
+      λ since known. (
+        since,
+        inl (record {
+          stop = met.0;
+          met = λ d. ap (λ (t : Tenant). t.stop)
+              (get_or_any c.args.tenants.now.list.items c.args.slice.now.kernel d c.index.result.now (omega (arith, n, low))
+              ∙ sym c.index.ensures) ∙ is;
+          same = refl;
+          same_since = refl;
+        }),
+        known,
+      ),
     )
 
 pub returns-then-is_some-clause-frames : goal.returns-then-is_some-clause-frames
@@ -264,34 +280,56 @@ returns-clause-turned g c =
     (g.H.Host.bytes c.go_on.new.host) (counts_of (g.H.Host.retired c.go_on.new.host) (g.H.Host.passed c.go_on.new.host))
     (g.O.Sink.taken c.go_on.new.out) turned gone in
     let there : c.make_room.new.self.present ≡ c.args.slice.now.kernel = c.make_room.ensures.rest.1 ∙ c.bring.ensures.rest.2 in
-    subst (λ n. (p : Piece) × GoesRound c.args.kernels.now.items c.args.tenants.now.frames c.args.slice.now p
-    (stage c.args.tenants.now (g.H.Host.bytes c.args.host.now))
-    (record {
-      tenants = set c.make_room.new.self.list.items c.args.slice.now.kernel c.go_on.new.tenant;
-      pool = c.go_on.new.pool;
-      present = n;
-      memory = g.H.Host.bytes c.go_on.new.host;
-    })
+    subst (λ n. (p : Piece)
     × IsBetween c.args.kernels.now.items c.args.tenants.now.frames whole (done ++ c.args.slice.now ∷ []) (pieces ++ p ∷ [])
     (set c.make_room.new.self.list.items c.args.slice.now.kernel c.go_on.new.tenant) c.go_on.new.pool n
     (g.H.Host.bytes c.go_on.new.host) before
-    (counts_of (g.H.Host.retired c.go_on.new.host) (g.H.Host.passed c.go_on.new.host)) was (g.O.Sink.taken c.go_on.new.out)) (sym there) (
+    (counts_of (g.H.Host.retired c.go_on.new.host) (g.H.Host.passed c.go_on.new.host)) was (g.O.Sink.taken c.go_on.new.out)
+    × ((since : ℕ → Since) → AreKnown c.args.kernels.now.items c.args.tenants.now.frames since
+    (stage c.args.tenants.now (g.H.Host.bytes c.args.host.now))
+    → (then_ : ℕ → Since) × GoesRound c.args.kernels.now.items c.args.tenants.now.frames c.args.slice.now p
+    (stage c.args.tenants.now (g.H.Host.bytes c.args.host.now)) (stage_of c.make_room.new.self.list.items c.args.slice.now.kernel
+    c.go_on.new.tenant c.go_on.new.pool (g.H.Host.bytes c.go_on.new.host) n) since then_
+    × AreKnown c.args.kernels.now.items c.args.tenants.now.frames then_ (stage_of c.make_room.new.self.list.items c.args.slice.now.kernel
+    c.go_on.new.tenant c.go_on.new.pool (g.H.Host.bytes c.go_on.new.host) n))) (sym there) (
       x.0,
-      inr (record {
-        ready = record {
-          tenants = c.make_room.new.self.list.items;
-          pool = c.make_room.new.self.pool;
-          present = c.args.slice.now.kernel;
-          memory = g.H.Host.bytes c.make_room.new.host;
-        };
-        comes = comes_in c.args.slice.now c.args.tenants.now c.bring.new.self c.make_room.new.self (g.H.Host.bytes c.args.host.now)
-            (g.H.Host.bytes c.bring.new.host) (g.H.Host.bytes c.make_room.new.host)
-            (λ e. ap (λ (t : Tenant). t.stop) (get_or_any c.args.tenants.now.list.items c.args.slice.now.kernel e c.index.result.now lt
-            ∙ sym c.index.ensures) ∙ live0)
-            c.bring.ensures.brought c.bring.ensures.rest.0 c.bring.ensures.rest.2 there c.make_room.ensures.released;
-        turn = x.1;
-      }),
-      x.2,
+      x.1,
+      λ since known.
+          let before_known = known_at c.args.kernels.now.items whole done pieces before
+          (counts_of (g.H.Host.retired c.args.host.now) (g.H.Host.passed c.args.host.now))
+          (counts_of (g.H.Host.retired c.bring.new.host) (g.H.Host.passed c.bring.new.host))
+          (counts_of (g.H.Host.retired c.make_room.new.host) (g.H.Host.passed c.make_room.new.host)) was (g.O.Sink.taken c.args.out.now)
+          c.args.slice.now.kernel c.args.tenants.now c.bring.new.self c.make_room.new.self
+          (g.H.Host.bytes c.args.host.now) (g.H.Host.bytes c.bring.new.host) (g.H.Host.bytes c.make_room.new.host) c.bring.ensures.brought
+          c.bring.ensures.rest lt (counts_same _ _ _ _ c.bring.ensures.retired c.bring.ensures.passed) b0
+          c.make_room.ensures.made c.make_room.ensures.theirs c.make_room.ensures.size c.make_room.ensures.apart c.make_room.ensures.stay
+          c.make_room.ensures.rest (counts_same _ _ _ _ c.make_room.ensures.retired c.make_room.ensures.passed) c.carry_laws.ensures
+          c.make_room.ensures.released since known in
+          let y =
+          x.2 c.carry_laws.ensures (released_since c.make_room.ensures.released.count c.args.slice.now.kernel since) before_known in
+          let come = comes_in c.args.slice.now c.args.tenants.now c.bring.new.self c.make_room.new.self (g.H.Host.bytes c.args.host.now)
+          (g.H.Host.bytes c.bring.new.host) (g.H.Host.bytes c.make_room.new.host)
+          (λ e. ap (λ (t : Tenant). t.stop) (get_or_any c.args.tenants.now.list.items c.args.slice.now.kernel e c.index.result.now lt
+          ∙ sym c.index.ensures) ∙ live0)
+          c.bring.ensures.brought c.bring.ensures.rest.0 c.bring.ensures.rest.2 there c.make_room.ensures.released in (
+            y.0,
+            inr (record {
+              ready = record {
+                tenants = c.make_room.new.self.list.items;
+                pool = c.make_room.new.self.pool;
+                present = c.args.slice.now.kernel;
+                memory = g.H.Host.bytes c.make_room.new.host;
+              };
+              comes = come.0;
+              turn = subst (λ (n : ℕ). MakesTurn c.args.kernels.now.items c.args.tenants.now.frames c.args.slice.now x.0
+                  (stage_ready c.make_room.new.self.list.items c.make_room.new.self.pool c.args.slice.now.kernel
+                  (g.H.Host.bytes c.make_room.new.host))
+                  (stage_of c.make_room.new.self.list.items c.args.slice.now.kernel c.go_on.new.tenant c.go_on.new.pool
+                  (g.H.Host.bytes c.go_on.new.host) c.args.slice.now.kernel) (released_since n c.args.slice.now.kernel since) y.0)
+                  (sym come.1) y.1;
+            }),
+            y.2,
+          ),
     ))
 
 pub returns-clause-failed : goal.returns-clause-failed
@@ -314,7 +352,7 @@ returns-clause-failed g c =
     let at0 = get_or_any c.args.tenants.now.list.items c.args.slice.now.kernel c.index.result.now d lt in
     let live : d.stop ≡ None = ap (λ (t : Tenant). t.stop) c.index_mut-tenant.ensures.value ∙ kept ∙ ap (λ (t : Tenant). t.stop) (sym at0)
     ∙ ap (λ (t : Tenant). t.stop) (sym c.index.ensures) ∙ live0 in
-    on_err_then c.go_on.result c.go_on.ensures.failed (λ failed whole done pieces before was next b0 gone.
+    on_err_then c.go_on.result c.go_on.ensures.failed (λ failed whole done pieces before was next b0 since gone.
     let b = ready_at c.args.kernels.now.items whole done pieces before
     (counts_of (g.H.Host.retired c.args.host.now) (g.H.Host.passed c.args.host.now))
     (counts_of (g.H.Host.retired c.bring.new.host) (g.H.Host.passed c.bring.new.host))
@@ -330,6 +368,7 @@ returns-clause-failed g c =
     c.index-2.result.now d c.index-2.ensures c.index_mut-tenant.ensures.value live (g.O.Sink.taken c.go_on.new.out) failed
     (λ p begins. record {
       between = stage c.args.tenants.now (g.H.Host.bytes c.args.host.now);
+      since = since;
       gone = gone;
       ready = record {
         tenants = c.make_room.new.self.list.items;
@@ -337,12 +376,12 @@ returns-clause-failed g c =
         present = c.args.slice.now.kernel;
         memory = g.H.Host.bytes c.make_room.new.host;
       };
-      comes = comes_in c.args.slice.now c.args.tenants.now c.bring.new.self c.make_room.new.self (g.H.Host.bytes c.args.host.now)
+      comes = (comes_in c.args.slice.now c.args.tenants.now c.bring.new.self c.make_room.new.self (g.H.Host.bytes c.args.host.now)
           (g.H.Host.bytes c.bring.new.host) (g.H.Host.bytes c.make_room.new.host)
           (λ e. ap (λ (t : Tenant). t.stop) (get_or_any c.args.tenants.now.list.items c.args.slice.now.kernel e c.index.result.now lt
           ∙ sym c.index.ensures) ∙ live0)
           c.bring.ensures.brought c.bring.ensures.rest.0 c.bring.ensures.rest.2 (c.make_room.ensures.rest.1 ∙ c.bring.ensures.rest.2)
-          c.make_room.ensures.released;
+          c.make_room.ensures.released).0;
       turn = begins;
     }))
 

@@ -54,18 +54,20 @@ returns-then-has_failed-clause-turn g c =
     turn_failed t0.out.ghost_name t1.out.ghost_name tag t0.tag t1.tag t0.since.faults t1.since.faults was t0.since.taken t1.since.taken
     given t0.since.text t1.since.text e0.since.2 e0.tag e0.since.0
     t1.begun t1.failed (g.O.Sink.taken t1.out.now) (g.O.Sink.faults t1.out.now) result s.text
-    (sym c.has_failed.ensures ∙ c.if-has_failed.true) t1.taken in
-    record {
-      sets = s.sets;
-      reports = s.reports;
-      last = s.last;
-      end = s.end;
-      steps = s.steps;
-      ends = unpaused _ _ s.last _ s.end result _ s.ends;
-      text = subst (λ o. AppendsFront was (g.O.Sink.taken o) (tagged tag given)) (sym same) front;
-      counts = s.counts;
-      each_filled = s.each_filled;
-    }
+    (sym c.has_failed.ensures ∙ c.if-has_failed.true) t1.taken in (
+      record {
+        sets = s.sets;
+        reports = s.reports;
+        last = s.last;
+        end = s.end;
+        steps = s.steps;
+        ends = unpaused _ _ s.last _ s.end result _ s.ends;
+        text = subst (λ o. AppendsFront was (g.O.Sink.taken o) (tagged tag given)) (sym same) front;
+        counts = s.counts;
+        each_filled = s.each_filled;
+      },
+      record { kept = s.kept; left = λ past known. tt; carried = λ past known. tt },
+    )
 
 pub returns-clause-turn : goal.returns-clause-turn
 returns-clause-turn g c =
@@ -85,15 +87,17 @@ returns-clause-turn g c =
     turn_all t0.out.ghost_name t1.out.ghost_name tag t0.tag t1.tag t0.since.faults t1.since.faults was t0.since.taken t1.since.taken given
     t0.since.text t1.since.text e0.since.2 e0.tag e0.since.0
     t1.begun t1.failed (g.O.Sink.taken t1.out.now) (g.O.Sink.faults t1.out.now) result _ _ s.text live t1.taken
-    c.slice-pause.ensures.faults.cause (no_faults t0.failed e0.failed) (no_faults t1.failed live) in
-    record {
-      sets = s.sets;
-      reports = s.reports;
-      last = s.last;
-      end = s.end;
-      steps = s.steps;
-      ends = s.ends;
-      text = subst (λ o. PutsAs (tagged tag given) was (g.O.Sink.taken o) result) (sym same) all;
-      counts = s.counts;
-      each_filled = s.each_filled;
-    }
+    c.slice-pause.ensures.faults.cause (no_faults t0.failed e0.failed) (no_faults t1.failed live) in (
+      record {
+        sets = s.sets;
+        reports = s.reports;
+        last = s.last;
+        end = s.end;
+        steps = s.steps;
+        ends = s.ends;
+        text = subst (λ o. PutsAs (tagged tag given) was (g.O.Sink.taken o) result) (sym same) all;
+        counts = s.counts;
+        each_filled = s.each_filled;
+      },
+      record { kept = s.kept; left = s.left; carried = s.carried },
+    )
