@@ -1,5 +1,5 @@
 -- Steps that count nothing, and those that count.
-use Rattle.std.proofs.Common.{◌≡◌, ◌⊎◌, inl, inr, ℕ, ◌==◌, Bool, true, false, cond, not, ◌&&◌, refl, sym, ap, ◌∙◌, List, [], ◌∷◌, Option, Some, None, Ok, Err, is_some}
+use Rattle.std.proofs.Common.{◌≡◌, ◌⊎◌, inl, inr, ℕ, ◌==◌, Bool, true, false, cond, not, ◌&&◌, refl, sym, ap, subst, ◌∙◌, List, [], ◌∷◌, Option, Some, None, Ok, Err, is_some}
 use Rattle.std.specs.Option.{ForSome}
 use Rattle.std.proofs.lemmas.Bool.{and_parts, both_ways}
 use Rattle.ia32_types.specs.declared.insn.Insn.{Insn}
@@ -7,15 +7,17 @@ use Rattle.ia32_types.specs.declared.insn.Op.{Op}
 use Rattle.ia32_types.specs.declared.insn.Op.TheVariants as op
 use Rattle.ia32_decode.specs.declared.answer.Decoded.{Decoded}
 use Rattle.ia32_decode.specs.declared.answer.Decoded.TheVariants as begins
+use Rattle.paging.specs.Space.{Space}
 use Rattle.paging.specs.Work.{Outcome}
 use Rattle.sys_exec.specs.declared.effect.Refusal.{Refusal}
 use Rattle.sites.specs.declared.site.Site.{Site}
 use Rattle.machine_model.specs.State.{Setting, State}
-use Rattle.machine_model.specs.Step.{Completed, begun, interrupt_of}
+use Rattle.machine_model.specs.Step.{Completed, Report, Went, begun, by_decoded, interrupt_of}
 use Rattle.image_check.specs.Places.{is_site_at}
 use Rattle.machine_model.specs.Counts.{is_software, needs_descriptor, is_direct, direct_in}
-use Rattle.machine_model.specs.Alone.{Reads, is_barred, is_native, WaitsCountNothing, SitesCountNothing, OthersCountNothing, NativesAreDirect}
-use Rattle.machine_model.proofs.Completing.{each_done}
+use Rattle.machine_model.specs.Alone.{Reads, IsUser, is_barred, is_native, WaitsCountNothing, SitesCountNothing, OthersCountNothing, NativesAreDirect}
+use Rattle.machine_model.proofs.Completing.{Completes, completes, each_done}
+use Rattle.machine_model.proofs.Goes.{Fetch}
 
 -- nothing where each that could be completed leads nowhere
 pub never : (o : Option Completed) → ForSome o (λ c. ⊥) → o ≡ None
@@ -67,11 +69,12 @@ insn_in other begins.Short = other
 insn_in other begins.Outside = other
 
 -- what is read is one instruction
-one_read : (m : Setting) (b : State) (x y : Insn) → Reads m b x → Reads m b y → x ≡ y
+pub one_insn : (x y : Insn) (n k : ℕ) (s t : Space) → ◌≡◌ {A = Fetch} (Ok (begins.Insn x n, s)) (Ok (begins.Insn y k, t)) → x ≡ y
 unfolding decoded_in insn_in
-one_read m b x y r s =
-    let e : begins.Insn x r.len ≡ begins.Insn y s.len = ap (decoded_in (begins.Insn x r.len)) (sym r.fetches ∙ s.fetches) in
-    ap (insn_in x) e
+one_insn x y n k s t e = ap (insn_in x) (ap (decoded_in (begins.Insn x n)) e)
+
+one_read : (m : Setting) (b : State) (x y : Insn) → Reads m b x → Reads m b y → x ≡ y
+one_read m b x y r s = one_insn x y r.len s.len r.after s.after (sym r.fetches ∙ s.fetches)
 
 pub soft_or_needs : (o : Op) → is_native true o ≡ false → is_barred o ≡ false → (not (is_software o) && not (needs_descriptor o)) ≡ false
 soft_or_needs op.Int n k = refl
@@ -104,15 +107,33 @@ by_user sites b c same user native lets =
     user
     ∙ soft_or_needs c.insn.op (ap (λ x. is_native x c.insn.op) (sym user) ∙ native) lets)
 
+-- nor is what a user's processor doesn't do by itself, nor INT and INT3
+pub uncounted : (sites : List Site) (b : State) (c : Completed) → c ≡ begun b c.insn → is_native (b.cpu.cpl == 3) c.insn.op ≡ false
+    → (IsUser b.cpu → is_barred c.insn.op ≡ false) → IsUser b.cpu ⊎ (is_software c.insn.op ≡ true) → is_direct sites c ≡ false
+uncounted sites b c same native lets (inl user) = by_user sites b c same (and_parts (b.cpu.cpl == 3) _ user).0 native (lets user)
+uncounted sites b c same native lets (inr soft) = by_soft sites b c same soft
+
 pub others : OthersCountNothing
 others m b report after sites insn reads native h e = indirect sites report.completed (λ c is.
     let d = each_done m b report after e c is in
     let one : insn ≡ c.insn = one_read m b insn c.insn reads d.reads in
-    let now : is_native (b.cpu.cpl == 3) c.insn.op ≡ false = ap (λ (x : Insn). is_native (b.cpu.cpl == 3) x.op) (sym one) ∙ native in
-    elim h [
-      | inl user ↦ by_user sites b c d.same (and_parts (b.cpu.cpl == 3) _ user).0 now (d.lets user)
-      | inr soft ↦ by_soft sites b c d.same (ap (λ (x : Insn). is_software x.op) (sym one) ∙ soft)
-    ])
+    uncounted sites b c d.same (ap (λ (x : Insn). is_native (b.cpu.cpl == 3) x.op) (sym one) ∙ native) d.lets
+    (subst (λ (x : Insn). IsUser b.cpu ⊎ (is_software x.op ≡ true)) one h))
+
+-- the same of an instruction that was read, and goes on
+pub others_read : (m : Setting) (b : State) (insn : Insn) (len : ℕ) (s : Space) → is_native (b.cpu.cpl == 3) insn.op ≡ false
+    → IsUser b.cpu ⊎ (is_software insn.op ≡ true) → (report : Report) (after : State)
+    → by_decoded m b (begins.Insn insn len) s ≡ Went report after → (sites : List Site) → direct_in sites report.completed ≡ []
+others_read m b insn len s native h report after e sites =
+    of_completed report.completed (completes m b (Ok (begins.Insn insn len, s)) report after e)
+  where
+    of_completed : (c : Option Completed) → Completes b (Ok (begins.Insn insn len, s)) c → direct_in sites c ≡ []
+    of_completed c Completes.nothing = refl
+    of_completed c (Completes.one x n t is lets) =
+        let one : insn ≡ x = one_insn insn x len n s t is in
+        ap (λ (y : Bool). cond y (b.cpu.regs.eip ∷ []) [])
+        (uncounted sites b (begun b x) refl (ap (λ (y : Insn). is_native (b.cpu.cpl == 3) y.op) (sym one) ∙ native) lets
+        (subst (λ (y : Insn). IsUser b.cpu ⊎ (is_software y.op ≡ true)) one h))
 
 native_test : (user inside : Bool) (o : Op) → is_native user o ≡ true → (user ≡ true) ⊎ (inside ≡ false)
     → (not (is_software o) && cond user (not (needs_descriptor o)) (not inside)) ≡ true

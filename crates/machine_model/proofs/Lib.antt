@@ -36,3 +36,6 @@ pub mod MadeUses
 pub mod Finding
 pub mod Leaving
 pub mod AbleLeft
+pub mod Goes
+pub mod Entering
+pub mod Lasting
