@@ -1,3 +1,4 @@
 pub mod Digits
+pub mod Forming
 pub mod Operands
 pub mod Strings
