@@ -1,14 +1,14 @@
 -- What a step's translations grant, and the effect over them.
 use Rattle.descriptors.specs.declared.cpu.Cpu.{Cpu}
 use Rattle.descriptors.specs.Controls.{wp_of}
-use Rattle.std.proofs.Common.{◌++◌, ◌≡◌, ℕ, zero, suc, ◌+◌, ◌-◌, ◌*◌, ◌/◌, ◌^◌, ◌<◌, ◌≤◌, List, [], ◌∷◌, length, Bool, true, false, cond, not, ◌==◌, Option, Some, None, Ok, refl, sym, ap, subst, ◌∙◌, ◌⊎◌, inl, inr, arith}
+use Rattle.std.proofs.Common.{◌++◌, ◌≡◌, ℕ, zero, suc, ◌+◌, ◌-◌, ◌/◌, ◌<◌, ◌≤◌, List, [], ◌∷◌, length, Bool, true, false, cond, not, ◌==◌, Option, Some, None, Ok, refl, sym, ap, subst, ◌∙◌, ◌⊎◌, inl, inr, arith}
 use Rattle.std.specs.Prelude.{slice_index_or}
 use Rattle.std.specs.List.{Contains}
 use Rattle.std.specs.FinMap.{FinMap, get}
 use Rattle.std.specs.Ordering.{nat_cmp}
 use Rattle.std.proofs.lemmas.List.Elements.{Contains-append_left, Contains-append_right, Contains-push}
 use Rattle.std.proofs.lemmas.Bool.{eqb-true, not-false}
-use Rattle.guest_ram.specs.Bytes.{AreBytes, byte}
+use Rattle.guest_ram.specs.Bytes.{byte}
 use Rattle.ia32_types.specs.declared.insn.Insn.{Insn}
 use Rattle.ia32_exec.specs.declared.access.Range.{Range}
 use Rattle.ia32_exec.specs.declared.selectors.Selectors.{Selectors}
@@ -18,7 +18,6 @@ use Rattle.ia32_exec.specs.Short.{IsShort}
 use Rattle.paging.specs.declared.entry.Entry.{Entry}
 use Rattle.paging.specs.Space.{Space, place, place_by, byte_at, with_ram, frame_by, frames_of}
 use Rattle.paging.specs.Uses.{is_barred, is_given}
-use Rattle.native_steps.specs.EffectLaws.{EffectLaws}
 use Rattle.step_exec.specs.Plain.{reached, is_in}
 use Rattle.step_exec.specs.Divided as divided
 use Rattle.step_exec.specs.Users as users
@@ -28,11 +27,9 @@ use Rattle.image_check.specs.Image.{Image}
 use Rattle.machine_model.specs.State.{Setting, State, wedge_mode}
 use Rattle.machine_model.specs.Instruction.{next_page}
 use Rattle.native_steps.specs.Lends.{IsOpen}
-use Rattle.native_steps.specs.Mirrors.{Sees}
 use Rattle.native_steps.specs.Native.{byte_of, effect_of}
-use Rattle.native_steps.specs.Forward.{IsNext}
 use Rattle.native_steps.specs.Backward.{IsTranslated}
-use Rattle.native_steps.specs.Again.{AreWithin, settled}
+use Rattle.native_steps.specs.Again.{settled}
 use Rattle.native_steps.specs.Granted.{IsGranted, IsRangeGranted, AreGranted, Leaves}
 use Rattle.native_steps.proofs.Clear.{uses_of, AreClear}
 use Rattle.native_steps.proofs.Pages.{HasEntry}
@@ -42,6 +39,7 @@ use Rattle.native_steps.proofs.Uses.{reaching_earlier, went_by, range_went}
 use Rattle.native_steps.proofs.Wrote.{Wrote, range_wrote}
 use Rattle.native_steps.proofs.Together.{level_user}
 use Rattle.native_steps.proofs.WentPages.{went_of}
+use Rattle.native_steps.proofs.Ranging.{HasRange, HasRanges, last_is}
 use Rattle.native_steps.proofs.Repeated as again
 
 -- ---- where a page that isn't barred may lead
@@ -133,9 +131,7 @@ still_in cpu s t write None q e c = let p : ◌≡◌ {A = Unit {0} × Space} (t
 still_in cpu s t write (Some r) q e c = subst (λ (l : List ℕ). Contains l q)
     (sym (range_went s t r.at r.len (record { write = write; user = cpu.cpl == 3 }) e)) (goes_on s.visited r.at r.len q c)
 
-module _ (flags : EffectLaws) (m : Setting) (v : View) (b : State) (mode : m.mode ≡ wedge_mode m.image)
-    (room : 4096 * m.frames ≤ length b.ram) (fit : AreBytes b.ram) (sound : AreWithin m b.set) (sees : Sees v b.cpu)
-    (next : IsNext m v.kernel b) (small : b.cpu.regs.eip < 2 ^ 32) where
+module _ (m : Setting) (v : View) (b : State) (known : again.Grounds m v b) where
   module _ (insn : Insn) (len : ℕ) (fetch read write : Space) (t : IsTranslated m b insn len fetch read write)
       (clear : AreClear b.set (b.cpu.cpl == 3) (wp_of b.cpu) [] (uses_of fetch.visited (ranges_of insn b.cpu.regs))) where
     abbrev reads : Option Range
@@ -148,7 +144,7 @@ module _ (flags : EffectLaws) (m : Setting) (v : View) (b : State) (mode : m.mod
     Granted w page = IsGranted m.image v.kernel (wp_of b.cpu) write w page
 
     user : (b.cpu.cpl == 3) ≡ not v.kernel
-    user = level_user v.kernel b.cpu.cpl sees.level
+    user = level_user v.kernel b.cpu.cpl known.sees.level
 
     -- ---- the fetch
 
@@ -180,19 +176,19 @@ module _ (flags : EffectLaws) (m : Setting) (v : View) (b : State) (mode : m.mod
               ]
         ]
 
-    abbrev first : again.Began flags m v b mode room fit sound sees next small insn len fetch
-    first = again.first flags m v b mode room fit sound sees next small insn len fetch read write t clear
+    abbrev first : again.Began m v b known insn len fetch
+    first = again.first m v b known insn len fetch read write t clear
 
     fetch_granted : (page : ℕ) → Contains fetch.visited page → Granted false page
     fetch_granted page c =
-        let way = first.way write (again.whole flags m v b mode room fit sound sees next small insn len fetch read write t clear) in
-        let pages = first.way_pages write (again.whole flags m v b mode room fit sound sees next small insn len fetch read write t clear) in
+        let way = first.way write (again.whole m v b known insn len fetch read write t clear) in
+        let pages = first.way_pages write (again.whole m v b known insn len fetch read write t clear) in
         by_way way page (subst (λ (l : List ℕ). Contains l page) (first.visited ∙ sym pages) c)
         (still_in b.cpu read write true writes page t.write (still_in b.cpu fetch read false reads page t.read c))
 
     -- ---- ranges
 
-    range_granted : (w : Bool) (r : Range) → 1 ≤ r.len → again.HasRange flags m v b mode room fit sound sees next small write w r
+    range_granted : (w : Bool) (r : Range) → 1 ≤ r.len → HasRange m v b write w r
         → (w ≡ true → Wrote r.at r.len write) → Contains write.visited (r.at / 4096) → Contains write.visited ((r.at + r.len - 1) / 4096)
         → IsRangeGranted m.image v.kernel (wp_of b.cpu) write w (Some r)
     range_granted w r some h wrote there last_there = (
@@ -200,7 +196,7 @@ module _ (flags : EffectLaws) (m : Setting) (v : View) (b : State) (mode : m.mod
           (λ k e. let a = h.above k in omega (arith, a))
           (λ e. noted write r.at r.len h.first (wrote e)
           (first_noted write r.at r.len h.first (frame_is v.kernel (wp_of b.cpu) write.set w (r.at / 4096) h.first h.has_first))) there,
-      subst (Granted w) (again.last_is flags m v b mode room fit sound sees next small r some)
+      subst (Granted w) (last_is m v b r some)
           (granted m.image v.kernel (wp_of b.cpu) write w false ((r.at + r.len - 1) / 4096) h.last_frame h.has_last h.free_last
           (λ k e. let a = h.above k in omega (arith, a, some))
           (λ e. noted write r.at r.len h.last_frame (wrote e)
@@ -208,9 +204,9 @@ module _ (flags : EffectLaws) (m : Setting) (v : View) (b : State) (mode : m.mod
           (frame_is v.kernel (wp_of b.cpu) write.set w ((r.at + r.len - 1) / 4096) h.last_frame h.has_last))) last_there),
     )
 
-    read_granted : (o : Option Range) → IsShort o → again.HasRanges flags m v b mode room fit sound sees next small write false o
+    read_granted : (o : Option Range) → IsShort o → HasRanges m v b write false o
         → reached b.cpu false o fetch ≡ Ok (tt, read) → IsRangeGranted m.image v.kernel (wp_of b.cpu) write false o
-    unfolding again.HasRanges
+    unfolding HasRanges
     read_granted None short h e = tt
     read_granted (Some r) short h e =
         let visited = range_went fetch read r.at r.len (record { write = false; user = b.cpu.cpl == 3 }) e in
@@ -220,9 +216,9 @@ module _ (flags : EffectLaws) (m : Setting) (v : View) (b : State) (mode : m.mod
         (still_in b.cpu read write true writes ((r.at + r.len - 1) / 4096) t.write
         (subst (λ (l : List ℕ). Contains l ((r.at + r.len - 1) / 4096)) (sym visited) (last_in fetch.visited r.at r.len)))
 
-    write_granted : (o : Option Range) → IsShort o → again.HasRanges flags m v b mode room fit sound sees next small write true o
+    write_granted : (o : Option Range) → IsShort o → HasRanges m v b write true o
         → reached b.cpu true o read ≡ Ok (tt, write) → IsRangeGranted m.image v.kernel (wp_of b.cpu) write true o
-    unfolding again.HasRanges
+    unfolding HasRanges
     write_granted None short h e = tt
     write_granted (Some r) short h e =
         let visited = range_went read write r.at r.len (record { write = true; user = b.cpu.cpl == 3 }) e in
@@ -231,15 +227,15 @@ module _ (flags : EffectLaws) (m : Setting) (v : View) (b : State) (mode : m.mod
         (subst (λ (l : List ℕ). Contains l ((r.at + r.len - 1) / 4096)) (sym visited) (last_in read.visited r.at r.len))
 
     short : IsShort reads × IsShort writes
-    short = again.short flags m v b mode room fit sound sees next small insn len fetch read write t clear
+    short = again.short m v b known insn len fetch read write t clear
 
     all_granted : AreGranted m.image v.kernel (wp_of b.cpu) write fetch.visited (ranges_of insn b.cpu.regs)
     all_granted = record {
       fetch = fetch_granted;
-      read = read_granted reads short.0 (again.read_end flags m v b mode room fit sound sees next small insn len fetch read write t clear)
+      read = read_granted reads short.0 (again.read_end m v b known insn len fetch read write t clear)
           t.read;
       write =
-          write_granted writes short.1 (again.write_end flags m v b mode room fit sound sees next small insn len fetch read write t clear)
+          write_granted writes short.1 (again.write_end m v b known insn len fetch read write t clear)
           t.write;
     }
 
@@ -263,25 +259,25 @@ module _ (flags : EffectLaws) (m : Setting) (v : View) (b : State) (mode : m.mod
     ready_bytes : (x : ℕ) → divided.byte_of (ranges_of insn b.cpu.regs) write x ≡ byte_of (settled b write) x
     ready_bytes x =
         ap (λ y. cond (is_in reads x) y (byte_at write x)) (as_read_same writes x t.write)
-        ∙ again.bytes_same flags m v b mode room fit sound sees next small insn len fetch read write t clear x
+        ∙ again.bytes_same m v b known insn len fetch read write t clear x
 
     selectors_same : users.selectors_of b.cpu ≡ selectors_of v
-    selectors_same = λ i. record { es = sym sees.es i; cs = sym sees.cs i; ss = sym sees.ss i; ds = sym sees.ds i }
+    selectors_same = λ i. record { es = sym known.sees.es i; cs = sym known.sees.cs i; ss = sym known.sees.ss i; ds = sym known.sees.ds i }
 
     effect_same : user_effect (users.selectors_of b.cpu) insn len b.cpu.regs (divided.byte_of (ranges_of insn b.cpu.regs) write) ≡ effect_of
         v (settled b write) insn len
     effect_same =
         ap (λ (g : Selectors). user_effect g insn len b.cpu.regs (divided.byte_of (ranges_of insn b.cpu.regs) write)) selectors_same
-        ∙ flags.same (divided.byte_of (ranges_of insn b.cpu.regs) write) (byte_of (settled b write)) (selectors_of v) insn len
+        ∙ known.flags.same (divided.byte_of (ranges_of insn b.cpu.regs) write) (byte_of (settled b write)) (selectors_of v) insn len
         b.cpu.regs first.shape
-        (again.all flags m v b mode room fit sound sees next small insn len fetch read write t clear
+        (again.all m v b known insn len fetch read write t clear
         (λ x. divided.byte_of (ranges_of insn b.cpu.regs) write x ≡ byte_of (settled b write) x) reads ready_bytes)
-        (again.all flags m v b mode room fit sound sees next small insn len fetch read write t clear
+        (again.all m v b known insn len fetch read write t clear
         (λ x. divided.byte_of (ranges_of insn b.cpu.regs) write x ≡ byte_of (settled b write) x) writes ready_bytes)
 
     pub leaves : Leaves m v b insn len fetch write
     leaves = record {
       granted = all_granted;
       effect = effect_same;
-      step = again.outcome flags m v b mode room fit sound sees next small insn len fetch read write t clear;
+      step = again.outcome m v b known insn len fetch read write t clear;
     }

@@ -27,6 +27,7 @@ pub mod Walking
 pub mod Through
 pub mod Repeating
 pub mod WentPages
+pub mod Ranging
 pub mod Repeated
 pub mod Wrote
 pub mod Granting

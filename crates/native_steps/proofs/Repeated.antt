@@ -1,10 +1,10 @@
 -- A step done again from where its translations lead.
-use Rattle.std.proofs.Common.{◌≡◌, ℕ, ◌+◌, ◌-◌, ◌*◌, ◌/◌, ◌%◌, ◌^◌, ◌<◌, ◌≤◌, List, [], ◌∷◌, ◌++◌, length, map, Bool, true, false, cond, not, ◌==◌, Option, Some, None, Ok, refl, sym, ap, subst, ◌∙◌, ◌⊎◌, inl, inr, arith}
+use Rattle.std.proofs.Common.{◌≡◌, ℕ, ◌+◌, ◌-◌, ◌*◌, ◌/◌, ◌^◌, ◌<◌, ◌≤◌, List, [], ◌∷◌, ◌++◌, length, map, Bool, true, false, cond, not, ◌==◌, Option, Some, None, Ok, refl, sym, ap, subst, ◌∙◌, ◌⊎◌, inl, inr, arith}
 use Rattle.std.specs.Prelude.{nat_le, nat_lt}
 use Rattle.std.specs.List.{Contains}
 use Rattle.std.specs.FinMap.{FinMap, get}
 use Rattle.std.specs.Ordering.{nat_cmp}
-use Rattle.std.proofs.lemmas.Bool.{cases_lt, and_parts, false_from_ne_true, leb-true, ltb-true, eqb-true, both_ways}
+use Rattle.std.proofs.lemmas.Bool.{and_parts, false_from_ne_true, leb-true, ltb-true, both_ways}
 use Rattle.descriptors.specs.Controls.{wp_of}
 use Rattle.guest_ram.specs.Bytes.{AreBytes, byte}
 use Rattle.ia32_types.specs.declared.flags.Regs.{Regs}
@@ -27,7 +27,6 @@ use Rattle.ia32_exec.specs.UserEffect.{user_effect}
 use Rattle.ia32_exec.specs.Effect.{ranges_of}
 use Rattle.paging.specs.declared.entry.Entry.{Entry}
 use Rattle.paging.specs.Space.{Mode, no_own, Space, place, place_by, byte_at, with_ram}
-use Rattle.paging.specs.Uses.{window_stop}
 use Rattle.sys_exec.specs.Access.{reaching}
 use Rattle.native_steps.specs.EffectLaws.{EffectLaws}
 use Rattle.step_exec.specs.Users.{user_finished}
@@ -48,16 +47,16 @@ use Rattle.native_steps.specs.Forward.{IsNext}
 use Rattle.native_steps.specs.Backward.{IsTranslated}
 use Rattle.native_steps.specs.Again.{AreWithin, settled, StepsAgain}
 use Rattle.native_steps.proofs.Clear.{Use, used, range_uses, uses_of, AreClear}
-use Rattle.native_steps.proofs.Pages.{At, Comes, HasEntry, IsFree, range_passes, reaching_comes}
+use Rattle.native_steps.proofs.Pages.{At, Comes, HasEntry, range_passes, reaching_comes}
 use Rattle.native_steps.proofs.Ways.{Way}
 use Rattle.native_steps.proofs.Doing.{IsUser, IsPopFlags, instructed_is, nothing_reached}
-use Rattle.native_steps.proofs.Uses.{window_above}
 use Rattle.native_steps.proofs.Fetching.{Fetches, IsFetch, IsIn, IsPast, fetch_parts, by_parts, fetching_went, fetched_comes}
 use Rattle.native_steps.proofs.Stored.{stored_is}
 use Rattle.native_steps.proofs.Shaped.{decoded_shaped}
 use Rattle.native_steps.proofs.Walking.{IsWithin, IsServed}
-use Rattle.native_steps.proofs.Through.{Before, after, before_after, clear_split, within_as, Through, through_on, through_same, RangeThrough, range_through}
+use Rattle.native_steps.proofs.Through.{after, before_after, clear_split, within_as, Through, through_on, through_same, range_through}
 use Rattle.native_steps.proofs.Repeating.{first_through, in_way, owns_in, across_way, left_is, left_in}
+use Rattle.native_steps.proofs.Ranging.{RangeOf, Ranged, HasRange, HasRanges, last_is, later, has_now, has_later, places_same, past_at, past_in}
 use Rattle.native_steps.proofs.WentPages.{went_of, way_went, went_after, range_goes}
 use Rattle.native_steps.proofs.Together.{level_user, stepped_by, by_op_is, selects_by, without_rights, not_soft, no_pop}
 
@@ -74,34 +73,20 @@ report_in other (Halts stop) = other
 halts_or_went : (stop : Stop) (report : Report) (b : State) → Halts stop ≡ Went report b → ⊥
 halts_or_went stop report b e = cc
 
--- ---- where the bytes of a range lie
+-- what is known of a step's start
+pub record Grounds (m : Setting) (v : View) (b : State) : Type 0 where
+  pub flags : EffectLaws
+  pub mode : m.mode ≡ wedge_mode m.image
+  pub room : 4096 * m.frames ≤ length b.ram
+  pub fit : AreBytes b.ram
+  pub sound : AreWithin m b.set
+  pub sees : Sees v b.cpu
+  pub next : IsNext m v.kernel b
+  pub small : b.cpu.regs.eip < 2 ^ 32
 
-ends_at : (at len : ℕ) → 1 ≤ len → (at + len - 1) / 4096 ≡ (at + (len - 1)) / 4096
-ends_at at len some = omega (arith, some)
-
-in_first : (at j : ℕ) → (at + j) / 4096 < at / 4096 + 1 → (at + j) / 4096 ≡ at / 4096
-in_first at j below = omega (arith, below)
-
-in_last : (at len j : ℕ) → at / 4096 + 1 ≤ (at + j) / 4096 → j < len → len ≤ 32 → (at + j) / 4096 ≡ (at + len - 1) / 4096
-in_last at len j above lt few = omega (arith, above, lt, few)
-
-past_at : (at x : ℕ) → at ≤ x → at + (x - at) ≡ x
-past_at at x low = omega (arith, low)
-
-past_in : (at len x : ℕ) → at ≤ x → x < at + len → x - at < len
-past_in at len x low high = omega (arith, low, high)
-
-in_frame : (f frame x : ℕ) → f ≡ frame → f * 4096 + x % 4096 ≡ 4096 * frame + x % 4096
-in_frame f frame x is = omega (arith, is)
-
-module _ (flags : EffectLaws) (m : Setting) (v : View) (b : State) (mode : m.mode ≡ wedge_mode m.image)
-    (room : 4096 * m.frames ≤ length b.ram) (fit : AreBytes b.ram) (sound : AreWithin m b.set) (sees : Sees v b.cpu)
-    (next : IsNext m v.kernel b) (small : b.cpu.regs.eip < 2 ^ 32) where
-  abbrev k : Bool
-  k = v.kernel
-
+module _ (m : Setting) (v : View) (b : State) (known : Grounds m v b) where
   user : (b.cpu.cpl == 3) ≡ not v.kernel
-  user = level_user v.kernel b.cpu.cpl sees.level
+  user = level_user v.kernel b.cpu.cpl known.sees.level
 
   abbrev start : Space
   start = space_at_start m.mode m.frames b.cpu b.ram b.set
@@ -142,9 +127,9 @@ module _ (flags : EffectLaws) (m : Setting) (v : View) (b : State) (mode : m.mod
       by_end : (p : IsFetch (not v.kernel) b.cpu.regs.eip insn len start t) → IsIn b.cpu.regs.eip insn len p.front p.first t
           ⊎ IsPast (not v.kernel) b.cpu.regs.eip insn len p.front p.first t → Began insn len t
       by_end p (inl x) =
-          let f = first_through m b v.kernel mode room fit sound small insn len t p in
+          let f = first_through m b v.kernel known.mode known.room known.fit known.sound known.small insn len t p in
           let w = f.through.within in
-          let is = owns_in m b v.kernel mode room fit sound small insn len t p x in
+          let is = owns_in m b v.kernel known.mode known.room known.fit known.sound known.small insn len t p x in
           record {
             within = subst (IsWithin m b v.kernel) is
                 (within_as m b v.kernel p.first
@@ -156,7 +141,7 @@ module _ (flags : EffectLaws) (m : Setting) (v : View) (b : State) (mode : m.mod
             visited = x.visited ∙ first_went p;
             shape = decoded_shaped p.front insn len x.is;
             way =
-                λ last th. inl (in_way m b v.kernel mode room fit sound small insn len t p x last
+                λ last th. inl (in_way m b v.kernel known.mode known.room known.fit known.sound known.small insn len t p x last
                 (moved ((b.cpu.regs.eip / 4096) ∷ []) _ t last is th));
             way_pages = λ last th. refl;
           }
@@ -165,40 +150,30 @@ module _ (flags : EffectLaws) (m : Setting) (v : View) (b : State) (mode : m.mod
           x.on.visited ∙ ap (λ (l : List ℕ). l ++ (next_page b.cpu.regs.eip / 4096) ∷ []) (first_went p) in
           let c = subst (λ (l : List ℕ). Clear [] (map (used false) l ++ rest)) visited clear in
           let served = c.1.0 in
-          let is = left_is m b v.kernel mode room fit sound small insn len t p x served in
+          let is = left_is m b v.kernel known.mode known.room known.fit known.sound known.small insn len t p x served in
           record {
-            within = subst (IsWithin m b v.kernel) is (left_in m b v.kernel mode room fit sound small insn len t p x served);
+            within = subst (IsWithin m b v.kernel) is
+                (left_in m b v.kernel known.mode known.room known.fit known.sound known.small insn len t p x served);
             pages = (b.cpu.regs.eip / 4096) ∷ (next_page b.cpu.regs.eip / 4096) ∷ [];
             visited = visited;
             shape = decoded_shaped (p.front ++ x.on.more) insn len x.on.is;
             way =
-                λ last th. inr (across_way m b v.kernel mode room fit sound small insn len t p x served last
+                λ last th. inr (across_way m b v.kernel known.mode known.room known.fit known.sound known.small insn len t p x served last
                 (moved ((next_page b.cpu.regs.eip / 4096) ∷ (b.cpu.regs.eip / 4096) ∷ []) _ t last is th));
             way_pages = λ last th. refl;
           }
 
   -- ---- ranges
 
-  RangeOf : List ℕ → Space → Space → Bool → Option Range → Type 0
-  RangeOf ps s t write None = Unit {0}
-  RangeOf ps s t write (Some r) = RangeThrough m b v.kernel ps s t write r.at r.len
-
-  record Ranged (ps : List ℕ) (s t : Space) (write : Bool) (o : Option Range) : Type 0 where
-    through : Through m b v.kernel ps s t
-    range : RangeOf ps s t write o
-
-  pub last_is : (r : Range) → 1 ≤ r.len → (r.at + r.len - 1) / 4096 ≡ last_page r
-  last_is r some = ends_at r.at r.len some
-
   ranged : (ps : List ℕ) (s t : Space) (write : Bool) (o : Option Range) → IsWithin m b v.kernel s → IsShort o
-      → Clear ps (range_uses write o) → reached b.cpu write o s ≡ Ok (tt, t) → Ranged ps s t write o
+      → Clear ps (range_uses write o) → reached b.cpu write o s ≡ Ok (tt, t) → Ranged m v b ps s t write o
   unfolding RangeOf
   ranged ps s t write None h short c e =
       record { through = subst (Through m b v.kernel ps s) (nothing_reached s t e) (through_same m b v.kernel ps s h); range = tt }
   ranged ps s t write (Some r) h short c e =
       let e2 : reaching r.at r.len (record { write = write; user = not v.kernel }) s ≡ Ok (tt, t) =
       ap (λ (u : Bool). reaching r.at r.len (record { write = write; user = u }) s) (sym user) ∙ e in
-      let last = last_is r short.0 in
+      let last = last_is m v b r short.0 in
       let g = range_through m b v.kernel ps s t write r.at r.len h short.0 c.0
       (λ other there. second (last_page r == r.at / 4096) refl c.1 other there) e2 in
       record { through = g.through; range = g }
@@ -208,80 +183,9 @@ module _ (flags : EffectLaws) (m : Setting) (v : View) (b : State) (mode : m.mod
           → ((r.at + r.len - 1) / 4096 == r.at / 4096) ≡ false → Contains ((r.at / 4096) ∷ ps) ((r.at + r.len - 1) / 4096)
           → IsServed m b v.kernel ((r.at + r.len - 1) / 4096) write
       second true is d other there =
-          absurd (both_ways ((r.at + r.len - 1) / 4096 == r.at / 4096) other (ap (λ p. p == r.at / 4096) (last_is r short.0) ∙ is))
-      second false is d other there = subst (λ p. IsServed m b v.kernel p write) (sym (last_is r short.0))
-          (d.0 (subst (Contains ((r.at / 4096) ∷ ps)) (last_is r short.0) there))
-
-  -- the entries of a range at the end of the translations
-  pub record HasRange (last : Space) (write : Bool) (r : Range) : Type 0 where
-    pub fits : r.at + r.len ≤ 2 ^ 32
-    pub above : v.kernel ≡ true → 0x11000000 ≤ r.at
-    pub first : ℕ
-    pub has_first : HasEntry v.kernel (wp_of b.cpu) last.set write (r.at / 4096) first
-    pub free_first : IsFree m b v.kernel false (r.at / 4096) first
-    pub last_frame : ℕ
-    pub has_last : HasEntry v.kernel (wp_of b.cpu) last.set write ((r.at + r.len - 1) / 4096) last_frame
-    pub free_last : IsFree m b v.kernel false ((r.at + r.len - 1) / 4096) last_frame
-
-  above_of : (s : Space) → IsWithin m b v.kernel s → (write : Bool) (at : ℕ)
-      → window_stop s.mode (record { write = write; user = not v.kernel }) at ≡ None → v.kernel ≡ true → 0x11000000 ≤ at
-  above_of s h write at e =
-      window_above v.kernel at (ap (λ (x : Mode). window_stop x (record { write = write; user = not v.kernel }) at) (sym h.mode) ∙ e)
-
-  first_before : (ps : List ℕ) (write : Bool) (r : Range) → Before (after ps (range_uses write (Some r))) (r.at / 4096)
-  first_before ps write r =
-      before_after (cond (last_page r == r.at / 4096) [] (used write (last_page r) ∷ [])) ((r.at / 4096) ∷ ps) (r.at / 4096) (inl refl)
-
-  last_before : (ps : List ℕ) (write : Bool) (r : Range) → Before (after ps (range_uses write (Some r))) (last_page r)
-  last_before ps write r = choice (last_page r == r.at / 4096) refl
-    where
-      choice : (one : Bool) → (last_page r == r.at / 4096) ≡ one
-          → Before (after ((r.at / 4096) ∷ ps) (cond one [] (used write (last_page r) ∷ []))) (last_page r)
-      choice true e = inl (sym (eqb-true (last_page r) (r.at / 4096) e))
-      choice false e = inl refl
-
-  now : (ps : List ℕ) (s t : Space) (write : Bool) (r : Range) → IsWithin m b v.kernel s → RangeThrough m b v.kernel ps s t write r.at r.len
-      → HasRange t write r
-  now ps s t write r h g = record {
-    fits = g.fits;
-    above = above_of s h write r.at g.window;
-    first = g.first;
-    has_first = g.has_first;
-    free_first = g.free_first;
-    last_frame = g.last;
-    has_last = g.has_last;
-    free_last = g.free_last;
-  }
-
-  later : (ps : List ℕ) (t last : Space) (write : Bool) (r : Range) → 1 ≤ r.len → HasRange t write r
-      → Through m b v.kernel (after ps (range_uses write (Some r))) t last → HasRange last write r
-  later ps t last write r some g th = record {
-    fits = g.fits;
-    above = g.above;
-    first = g.first;
-    has_first = th.kept (r.at / 4096) write g.first (first_before ps write r) g.has_first;
-    free_first = g.free_first;
-    last_frame = g.last_frame;
-    has_last = th.kept ((r.at + r.len - 1) / 4096) write g.last_frame
-        (subst (Before (after ps (range_uses write (Some r)))) (sym (last_is r some)) (last_before ps write r)) g.has_last;
-    free_last = g.free_last;
-  }
-
-  unfoldable pub HasRanges : Space → Bool → Option Range → Type 0
-  HasRanges last write None = Unit {0}
-  HasRanges last write (Some r) = HasRange last write r
-
-  has_now : (ps : List ℕ) (s t : Space) (write : Bool) (o : Option Range) → IsWithin m b v.kernel s → Ranged ps s t write o
-      → HasRanges t write o
-  unfolding RangeOf HasRanges
-  has_now ps s t write None h g = tt
-  has_now ps s t write (Some r) h g = now ps s t write r h g.range
-
-  has_later : (ps : List ℕ) (t last : Space) (write : Bool) (o : Option Range) → IsShort o → HasRanges t write o
-      → Through m b v.kernel (after ps (range_uses write o)) t last → HasRanges last write o
-  unfolding HasRanges
-  has_later ps t last write None short g th = tt
-  has_later ps t last write (Some r) short g th = later ps t last write r short.0 g th
+          absurd (both_ways ((r.at + r.len - 1) / 4096 == r.at / 4096) other (ap (λ p. p == r.at / 4096) (last_is m v b r short.0) ∙ is))
+      second false is d other there = subst (λ p. IsServed m b v.kernel p write) (sym (last_is m v b r short.0))
+          (d.0 (subst (Contains ((r.at / 4096) ∷ ps)) (last_is m v b r short.0) there))
 
   -- ---- the same from where they lead
 
@@ -289,7 +193,7 @@ module _ (flags : EffectLaws) (m : Setting) (v : View) (b : State) (mode : m.mod
     abbrev a : State
     a = settled b last
 
-    range_again : (s : Space) (write : Bool) (r : Range) → At m (settled b last) s → HasRange last write r
+    range_again : (s : Space) (write : Bool) (r : Range) → At m (settled b last) s → HasRange m v b last write r
         → Comes m (settled b last) tt (reaching r.at r.len (record { write = write; user = b.cpu.cpl == 3 }) s)
     range_again s write r h g =
         let p = range_passes m (settled b last) v.kernel s r.at r.len write g.first g.last_frame h g.fits g.above g.has_first g.free_first
@@ -301,7 +205,7 @@ module _ (flags : EffectLaws) (m : Setting) (v : View) (b : State) (mode : m.mod
           at = c.at;
         }
 
-    reached_again : (s : Space) (write : Bool) (o : Option Range) → At m (settled b last) s → HasRanges last write o
+    reached_again : (s : Space) (write : Bool) (o : Option Range) → At m (settled b last) s → HasRanges m v b last write o
         → Comes m (settled b last) tt (reached b.cpu write o s)
     unfolding HasRanges
     reached_again s write None h g = record { space = s; is = refl; at = h }
@@ -315,31 +219,8 @@ module _ (flags : EffectLaws) (m : Setting) (v : View) (b : State) (mode : m.mod
       visited = λ q c. absurd (let lt = c.1 in omega (arith, lt));
       tables = refl;
       own = no_own;
-      mode = mode;
+      mode = known.mode;
     }
-
-  -- an address of a range has the same place then
-  place_of : (s : Space) (write : Bool) (page frame x : ℕ) → x / 4096 ≡ page → HasEntry v.kernel (wp_of b.cpu) s.set write page frame
-      → place s x ≡ 4096 * frame + x % 4096
-  unfolding place
-  place_of s write page frame x e h =
-      let sum : h.entry.frame * 4096 + x % 4096 ≡ 4096 * frame + x % 4096 = in_frame h.entry.frame frame x h.frame_is in
-      ap (λ p. place_by (get s.set p) x) e ∙ ap (λ (o : Option Entry). place_by o x) h.kept ∙ sum
-
-  places_same : (s t : Space) (write : Bool) (r : Range) → 1 ≤ r.len → r.len ≤ 32 → (g : HasRange s write r) (h : HasRange t write r)
-      → g.first ≡ h.first → g.last_frame ≡ h.last_frame → (j : ℕ) → j < r.len → place s (r.at + j) ≡ place t (r.at + j)
-  places_same s t write r some few g h one two j lt =
-      elim (cases_lt ((r.at + j) / 4096) (r.at / 4096 + 1)) [
-        | inl below ↦
-            let page : (r.at + j) / 4096 ≡ r.at / 4096 = in_first r.at j below in
-            place_of s write (r.at / 4096) g.first (r.at + j) page g.has_first ∙ ap (λ f. 4096 * f + (r.at + j) % 4096) one
-            ∙ sym (place_of t write (r.at / 4096) h.first (r.at + j) page h.has_first)
-        | inr above ↦
-            let page : (r.at + j) / 4096 ≡ (r.at + r.len - 1) / 4096 = in_last r.at r.len j above lt few in
-            place_of s write ((r.at + r.len - 1) / 4096) g.last_frame (r.at + j) page g.has_last
-            ∙ ap (λ f. 4096 * f + (r.at + j) % 4096) two
-            ∙ sym (place_of t write ((r.at + r.len - 1) / 4096) h.last_frame (r.at + j) page h.has_last)
-      ]
 
   -- ---- the step
 
@@ -377,10 +258,10 @@ module _ (flags : EffectLaws) (m : Setting) (v : View) (b : State) (mode : m.mod
     abbrev read_pages : List ℕ
     read_pages = after fetch_pages (range_uses false reads)
 
-    second : Ranged fetch_pages fetch read false reads
+    second : Ranged m v b fetch_pages fetch read false reads
     second = ranged fetch_pages fetch read false reads first.within short.0 rest.0 t.read
 
-    third : Ranged read_pages read write true writes
+    third : Ranged m v b read_pages read write true writes
     third = ranged read_pages read write true writes second.through.within short.1 rest.1 t.write
 
     pub whole : Through m b v.kernel fetch_pages fetch write
@@ -388,14 +269,14 @@ module _ (flags : EffectLaws) (m : Setting) (v : View) (b : State) (mode : m.mod
         (before_after (range_uses false reads) fetch_pages)
 
     -- their entries at the end
-    read_now : HasRanges read false reads
-    read_now = has_now fetch_pages fetch read false reads first.within second
+    read_now : HasRanges m v b read false reads
+    read_now = has_now m v b fetch_pages fetch read false reads first.within second
 
-    pub read_end : HasRanges write false reads
-    read_end = has_later fetch_pages read write false reads short.0 read_now third.through
+    pub read_end : HasRanges m v b write false reads
+    read_end = has_later m v b fetch_pages read write false reads short.0 read_now third.through
 
-    pub write_end : HasRanges write true writes
-    write_end = has_now read_pages read write true writes second.through.within third
+    pub write_end : HasRanges m v b write true writes
+    write_end = has_now m v b read_pages read write true writes second.through.within third
 
     -- ---- again
 
@@ -436,7 +317,7 @@ module _ (flags : EffectLaws) (m : Setting) (v : View) (b : State) (mode : m.mod
 
     -- ---- over the same bytes
 
-    read_places : (o : Option Range) → IsShort o → (ps : List ℕ) → HasRanges read false o
+    read_places : (o : Option Range) → IsShort o → (ps : List ℕ) → HasRanges m v b read false o
         → Through m b v.kernel (after ps (range_uses false o)) read write → (x : ℕ) → is_in o x ≡ true → place read x ≡ place write x
     unfolding HasRanges later
     read_places None sh ps g th x e = absurd (both_ways false refl e)
@@ -446,7 +327,7 @@ module _ (flags : EffectLaws) (m : Setting) (v : View) (b : State) (mode : m.mod
         let high = ltb-true x (r.at + r.len) p.1 in
         let sum : r.at + (x - r.at) ≡ x = past_at r.at x low in
         subst (λ y. place read y ≡ place write y) sum
-        (places_same read write false r sh.0 sh.1 g (later ps read write false r sh.0 g th) refl refl (x - r.at)
+        (places_same m v b read write false r sh.0 sh.1 g (later m v b ps read write false r sh.0 g th) refl refl (x - r.at)
         (past_in r.at r.len x low high))
 
     byte_there : (x : ℕ) → byte_at write x ≡ byte_of (settled b write) x
@@ -498,7 +379,7 @@ module _ (flags : EffectLaws) (m : Setting) (v : View) (b : State) (mode : m.mod
     soft = not_soft insn.op insn.imm t.permitted
 
     user_of : IsPopFlags insn.op → IsUser b.cpu
-    user_of h = without_rights v b.cpu sees (false_from_ne_true v.kernel (λ x. no_pop insn.op (t.plain (user ∙ ap not x)) h))
+    user_of h = without_rights v b.cpu known.sees (false_from_ne_true v.kernel (λ x. no_pop insn.op (t.plain (user ∙ ap not x)) h))
 
     user_held : IsPopFlags insn.op → IsUser (unheld b).cpu
     user_held h = let u = user_of h in record { without = u.without; above = u.above }
@@ -524,6 +405,17 @@ module _ (flags : EffectLaws) (m : Setting) (v : View) (b : State) (mode : m.mod
         ap (λ (x : Space). after_instruction m (unheld b) (begun b insn)
         (Ok (record { cpu = record (unheld b).cpu { regs = regs }; effect = effects.Next }, x))) (stored_is s (list_of stores))
 
+    abbrev gone : List ℕ → FinMap nat_cmp Entry → List ℕ → List ℕ → List ℕ → Regs → Stores → Result
+    gone ram set visited tables wrote regs stores =
+        Went (record { items = []; completed = Some (begun b insn); pages = visited; tables = tables; wrote = wrote })
+        (record {
+          cpu = record (unheld b).cpu { regs = regs };
+          ram = all_stored (λ x. place_by (get set (x / 4096)) x) ram (list_of stores);
+          set = set;
+          board = Rattle.board.specs.Boards.board_step b.board;
+          step = b.step + 1;
+        })
+
     -- with other notes
     noted : (ram : List ℕ) (set : FinMap nat_cmp Entry) (visited tables wrote others news : List ℕ) (regs : Regs) (stores : Stores)
         (report : Report) (after_state : State)
@@ -533,23 +425,9 @@ module _ (flags : EffectLaws) (m : Setting) (v : View) (b : State) (mode : m.mod
         by_test (Rattle.machine_model.specs.Rules.may_leave m.mode (unheld b).cpu (record (unheld b).cpu { regs = regs })) e
       where
         by_test : (c : Bool) → cond {A = Result} c
-            (Went (record { items = []; completed = Some (begun b insn); pages = visited; tables = tables; wrote = wrote })
-            (record {
-              cpu = record (unheld b).cpu { regs = regs };
-              ram = all_stored (λ x. place_by (get set (x / 4096)) x) ram (list_of stores);
-              set = set;
-              board = Rattle.board.specs.Boards.board_step b.board;
-              step = b.step + 1;
-            })) (Halts stops.UserFlags) ≡ Went report after_state
+            (gone ram set visited tables wrote regs stores) (Halts stops.UserFlags) ≡ Went report after_state
             → cond {A = Result} c
-            (Went (record { items = []; completed = Some (begun b insn); pages = visited; tables = others; wrote = news })
-            (record {
-              cpu = record (unheld b).cpu { regs = regs };
-              ram = all_stored (λ x. place_by (get set (x / 4096)) x) ram (list_of stores);
-              set = set;
-              board = Rattle.board.specs.Boards.board_step b.board;
-              step = b.step + 1;
-            })) (Halts stops.UserFlags)
+            (gone ram set visited others news regs stores) (Halts stops.UserFlags)
             ≡ Went (record report { tables = others; wrote = news }) after_state
         by_test true g = ap (λ (o : Result). renoted others news o) g
         by_test false g = absurd (halts_or_went _ _ _ g)
@@ -563,14 +441,7 @@ module _ (flags : EffectLaws) (m : Setting) (v : View) (b : State) (mode : m.mod
         by_test (Rattle.machine_model.specs.Rules.may_leave m.mode (unheld b).cpu (record (unheld b).cpu { regs = regs })) e
       where
         by_test : (c : Bool) → cond {A = Result} c
-            (Went (record { items = []; completed = Some (begun b insn); pages = visited; tables = tables; wrote = wrote })
-            (record {
-              cpu = record (unheld b).cpu { regs = regs };
-              ram = all_stored (λ x. place_by (get set (x / 4096)) x) ram (list_of stores);
-              set = set;
-              board = Rattle.board.specs.Boards.board_step b.board;
-              step = b.step + 1;
-            })) (Halts stops.UserFlags) ≡ Went report after_state
+            (gone ram set visited tables wrote regs stores) (Halts stops.UserFlags) ≡ Went report after_state
             → (report.pages ≡ visited) × (report.tables ≡ tables) × (report.wrote ≡ wrote)
         by_test true g = let f = sym (ap (λ (o : Result). report_in report o) g) in
             (ap (λ (r : Report). r.pages) f, ap (λ (r : Report). r.tables) f, ap (λ (r : Report). r.wrote) f)
@@ -579,17 +450,18 @@ module _ (flags : EffectLaws) (m : Setting) (v : View) (b : State) (mode : m.mod
     -- the effect over the step's bytes is that over the bytes of the state that is left
     same_effect : user_effect (selectors_of v) insn len b.cpu.regs (byte_by reads read write) ≡ effect_of v (settled b write) insn len
     same_effect =
-        flags.same (byte_by reads read write) (byte_of (settled b write)) (selectors_of v) insn len b.cpu.regs first.shape
+        known.flags.same (byte_by reads read write) (byte_of (settled b write)) (selectors_of v) insn len b.cpu.regs first.shape
         (all (λ x. byte_by reads read write x ≡ byte_of (settled b write) x) reads bytes_same)
         (all (λ x. byte_by reads read write x ≡ byte_of (settled b write) x) writes bytes_same)
 
     pub outcome : stepped m b ≡ after_instruction m (unheld b) (begun b insn)
         (user_finished (unheld b).cpu (effect_of v (settled b write) insn len) write)
     outcome =
-        stepped_by m v.kernel b sees.level next
+        stepped_by m v.kernel b known.sees.level known.next
         ∙ ap (after_fetch m (unheld b)) t.fetched
         ∙ by_op_is m insn.op (unheld b) insn len fetch soft
-        ∙ instructed_is m (unheld b) (begun b insn) flags.agree (selectors_of v) (unheld b).cpu (selects_by v b.cpu sees) fetch read write
+        ∙ instructed_is m (unheld b) (begun b insn) known.flags.agree (selectors_of v) (unheld b).cpu
+        (selects_by v b.cpu known.sees) fetch read write
         insn len user_held first.shape t.permitted (record { free = t.segments; read = t.read; write = t.write })
         ∙ ap (λ (o : exec.Outcome). after_instruction m (unheld b) (begun b insn) (user_finished (unheld b).cpu o write)) same_effect
 
@@ -601,21 +473,28 @@ module _ (flags : EffectLaws) (m : Setting) (v : View) (b : State) (mode : m.mod
         ∙ finished_is write regs stores
 
     next_again : IsNext m v.kernel (settled b write)
-    next_again = record { awake = next.awake; quiet = next.quiet; small = next.small; start = next.start; outside = next.outside }
+    next_again = record {
+      awake = known.next.awake;
+      quiet = known.next.quiet;
+      small = known.next.small;
+      start = known.next.start;
+      outside = known.next.outside;
+    }
 
     repeated : (regs : Regs) (stores : Stores) → effect_of v (settled b write) insn len ≡ outcomes.Done regs stores
         → stepped m (settled b write) ≡ finish again_write.space.ram again_write.space.set again_write.space.visited
         again_write.space.tables again_write.space.wrote regs stores
     repeated regs stores e =
-        stepped_by m v.kernel (settled b write) sees.level next_again
+        stepped_by m v.kernel (settled b write) known.sees.level next_again
         ∙ ap (after_fetch m (unheld (settled b write))) again_translated.fetched
         ∙ by_op_is m insn.op (unheld (settled b write)) insn len again_fetch.space soft
-        ∙ instructed_is m (unheld (settled b write)) (begun b insn) flags.agree (selectors_of v) (unheld b).cpu (selects_by v b.cpu sees)
+        ∙ instructed_is m (unheld (settled b write)) (begun b insn) known.flags.agree (selectors_of v) (unheld b).cpu
+        (selects_by v b.cpu known.sees)
         again_fetch.space again_read.space again_write.space insn len user_held first.shape t.permitted
         (record { free = t.segments; read = again_read.is; write = again_write.is })
         ∙ ap (λ (o : exec.Outcome). after_instruction m (unheld (settled b write)) (begun b insn)
         (user_finished (unheld b).cpu o again_write.space))
-        (flags.same (byte_by reads again_read.space again_write.space) (byte_of (settled b write)) (selectors_of v) insn len
+        (known.flags.same (byte_by reads again_read.space again_write.space) (byte_of (settled b write)) (selectors_of v) insn len
         b.cpu.regs first.shape
         (all (λ x. byte_by reads again_read.space again_write.space x ≡ byte_of (settled b write) x) reads again_bytes)
         (all (λ x. byte_by reads again_read.space again_write.space x ≡ byte_of (settled b write) x) writes again_bytes) ∙ e)
