@@ -1,51 +1,33 @@
 -- What each instruction and each delivery does to CR0, CR3 and CR4, and what it drops.
-use Rattle.std.proofs.Common.{◌≡◌, ℕ, ◌/◌, ◌%◌, ◌<◌, ◌==◌, Bool, true, false, cond, not, ◌&&◌, ◌||◌, Option, Some, None, Ok, Err, Result, zero, suc, refl, sym, ap, subst, ◌∙◌, bit_and, bit_or, nat_lt, slice_set, arith}
+use Rattle.std.proofs.Common.{◌≡◌, ℕ, ◌/◌, ◌%◌, ◌<◌, ◌==◌, Bool, true, false, cond, not, ◌&&◌, Option, Some, None, Ok, Err, Result, zero, suc, refl, sym, ap, subst, ◌∙◌, arith}
 use Rattle.std.specs.Prelude.{IfOk}
 use Rattle.std.proofs.lemmas.Bool.{not-false, eqb-true, not-true, both_ways}
 use Rattle.ia32_types.specs.declared.insn.Insn.{Insn}
 use Rattle.ia32_types.specs.declared.insn.Op.{Op}
 use Rattle.ia32_types.specs.declared.insn.Op.TheVariants as ops
-use Rattle.ia32_types.specs.declared.insn.Operand.{Operand}
-use Rattle.ia32_types.specs.declared.insn.Operand.TheVariants as operands
-use Rattle.ia32_types.specs.declared.register.Seg.{Seg}
-use Rattle.ia32_types.specs.declared.register.Seg.TheVariants.{Es, Cs, Ss, Ds}
-use Rattle.ia32_types.specs.declared.size.Size.TheVariants.{Word}
 use Rattle.ia32_exec.specs.declared.outcome.Outcome as exec
 use Rattle.ia32_exec.specs.declared.outcome.Outcome.TheVariants as outcomes
-use Rattle.ia32_exec.specs.Registers.{address_of}
 use Rattle.ia32_exec.specs.Effect.{effect, ranges_of}
-use Rattle.descriptors.specs.Access.{mark}
-use Rattle.descriptors.specs.Controls.{pse_of, control_0_needed, control_0_refused, control_3_refused}
 use Rattle.descriptors.specs.declared.cpu.Cpu.{Cpu}
 use Rattle.event_entry.specs.declared.refusal.Kind.{Kind}
-use Rattle.event_entry.specs.declared.refusal.NotDelivered.{NotDelivered}
-use Rattle.event_entry.specs.Access.{denials}
-use Rattle.event_entry.specs.Deliver.{entry_of, code_marking, stack_of, push_frame, entered, delivered}
+use Rattle.event_entry.specs.Deliver.{delivered}
 use Rattle.paging.specs.Fresh.{has}
 use Rattle.paging.specs.Space.{Space}
-use Rattle.paging.specs.Work.{Outcome, Work, unless, writes}
+use Rattle.paging.specs.Work.{Outcome, unless}
 use Rattle.step_exec.specs.Plain.{is_refused, finished, byte_by, reached, after_writes, after_reads, executed}
 use Rattle.sys_exec.specs.declared.effect.Refusal.{Refusal}
 use Rattle.sys_exec.specs.declared.effect.Refusal.TheVariants as refusals
 use Rattle.sys_exec.specs.declared.effect.SysEffect.{SysEffect}
 use Rattle.sys_exec.specs.declared.effect.SysEffect.TheVariants as effects
 use Rattle.sys_exec.specs.declared.effect.SysOutcome.{SysOutcome}
-use Rattle.sys_exec.specs.declared.effect.Loading.{Loading}
-use Rattle.sys_exec.specs.declared.iret.Popped.{Popped}
-use Rattle.sys_exec.specs.Operand.{protection_0, kernel_alone, selector, selector_in, operand_reached, long_of, pulled, pushed, past, past_pop, reg_at, next}
-use Rattle.sys_exec.specs.Segment.{marked, load_data, load_task, find_stack, find_return, find_jump}
-use Rattle.sys_exec.specs.Iret.{is_within, popped, popped_outer, return_same, return_outer, interrupt_return}
-use Rattle.sys_exec.specs.Control.{control_stop, changes_pse, control_of, load_control, write_control, read_control}
-use Rattle.sys_exec.specs.Flags.{clear_interrupts, set_interrupts, halt, push_flags, pop_flags}
-use Rattle.sys_exec.specs.Table.{table_at, load_gdt, load_idt, load_tr, drop_at, dropped, drop_page}
-use Rattle.sys_exec.specs.Move.{selector_kept, read_seg, load_by, load_seg, push_seg, pop_seg, far_jump}
-use Rattle.sys_exec.specs.Port.{port_in, port_out}
-use Rattle.sys_exec.specs.Branch.{return_to, jump_to, called_through, call_to}
-use Rattle.sys_exec.specs.Sys.{told, row, sys_work}
+use Rattle.sys_exec.specs.Operand.{past}
+use Rattle.sys_exec.specs.Control.{changes_pse}
+use Rattle.sys_exec.specs.Sys.{told, sys_work}
 use Rattle.machine_model.specs.Instruction.{is_plain, done_plainly, instructed}
 use Rattle.machine_model.specs.Taken.{is_load, is_write, is_control_3}
+use Rattle.machine_model.proofs.Entering.{Enters, entering}
 use Rattle.machine_model.proofs.Leaving.{Left, drops_all, sys_left}
-use Rattle.machine_model.proofs.Yielding.{Ends, Yields, then_yields, any_yields, gives_yields, if_yields, by_yields}
+use Rattle.machine_model.proofs.Yielding.{Ends, Yields, any_yields}
 use Rattle.machine_step.specs.declared.worked.Completed.{Completed}
 use Rattle.machine_step.specs.declared.worked.Dropped.TheVariants as drops
 use Rattle.machine_step.specs.declared.worked.Seen.TheVariants as seen
@@ -105,18 +87,12 @@ unheld_roots cpu w h = record { through = h.through; load = h.load; all = h.all;
 
 -- ---- deliveries
 
-delivery_keeps : (cpu : Cpu) (vector : ℕ) (kind : Kind) (code : Option ℕ) → Yields (KeepsRoots cpu) (delivered cpu vector kind code)
-unfolding delivered
-delivery_keeps cpu vector kind code =
-    any_yields (entry_of cpu vector kind) (λ entry. any_yields (code_marking cpu entry.sel) (λ marking. any_yields (stack_of cpu) (λ stack.
-    any_yields (push_frame cpu stack code)
-    (λ top. any_yields (mark denials cpu entry.sel marking) (λ one. any_yields (mark denials cpu stack.sel stack.marking) (λ two.
-    gives_yields {x = entered cpu entry stack top} (record { cr0 = refl; cr3 = refl; cr4 = refl })))))))
+enters_keeps : (cpu after : Cpu) → Enters cpu after → KeepsRoots cpu after
+enters_keeps cpu after (Enters.handler entry stack top far is) = record { cr0 = refl; cr3 = refl; cr4 = refl }
 
 pub entered_keeps : (cpu after : Cpu) (vector : ℕ) (kind : Kind) (code : Option ℕ) (s t : Space)
     → delivered cpu vector kind code s ≡ Ok (after, t) → KeepsRoots cpu after
-entered_keeps cpu after vector kind code s t e =
-    subst (λ (o : Outcome NotDelivered Cpu). Ends (KeepsRoots cpu) o) e ((delivery_keeps cpu vector kind code).each s)
+entered_keeps cpu after vector kind code s t e = enters_keeps cpu after (entering cpu after vector kind code s t e)
 
 -- ---- plain instructions
 
