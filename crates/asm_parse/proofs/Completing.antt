@@ -1,14 +1,8 @@
 -- What has been read of a statement can go on to its end.
-use Rattle.std.proofs.Common.{◌≡◌, ℕ, zero, suc, ◌+◌, ◌≤◌, ◌<◌, Bool, true, false, cond, List, [], ◌∷◌, ◌++◌, length, Option, Some, None, Ok, refl, sym, ap, subst, ◌∙◌, ◌⊎◌, inl, inr, arith}
-use Rattle.std.proofs.lemmas.List.{length-append, length-replicate}
-use Rattle.std.proofs.lemmas.Bool.{ltb-true, ltb-false, le-ltb, ne_eqb, not-false, or_right}
-use Rattle.std.proofs.lemmas.Cmp.{nat_list_eq_equiv}
-use Rattle.std.proofs.lemmas.Slice.Eq.{bytes_eq-Decides}
-use Rattle.std.proofs.lemmas.Map.Made.{length-le_from_is_member}
-use Rattle.std.specs.Prelude.{pos, ◌==◌, ◌||◌, not, nat_lt, replicate}
-use Rattle.std.specs.List.{list_all}
-use Rattle.std.specs.Str.{bytes_eq}
-use Rattle.asm_lex.specs.Bytes.{class_of, is_mark, is_letter, is_word}
+use Rattle.std.proofs.Common.{◌≡◌, ℕ, zero, suc, ◌+◌, ◌≤◌, Bool, true, false, cond, List, [], ◌∷◌, ◌++◌, length, Option, Some, None, Ok, refl, sym, ap, subst, ◌∙◌, inl, inr, arith}
+use Rattle.std.proofs.lemmas.List.{length-append}
+use Rattle.std.proofs.lemmas.Bool.{ltb-true, le-ltb, ne_eqb, not-false}
+use Rattle.std.specs.Prelude.{pos, ◌==◌, ◌||◌, not, nat_lt}
 use Rattle.asm_lex.specs.declared.token.TokenKind.TheVariants as kind
 use Rattle.asm_lex.specs.Words.{Word}
 use Rattle.asm_lex.specs.Source.{lines_after}
@@ -18,7 +12,6 @@ use Rattle.asm_argument.specs.declared.shape.Shape.TheVariants as shape
 use Rattle.asm_argument.specs.declared.operand.ValuePlace.TheVariants as place
 use Rattle.asm_argument.specs.declared.operand.Partial.{Partial}
 use Rattle.asm_argument.specs.declared.operand.Partial.TheVariants as partial
-use Rattle.asm_source.specs.declared.tree.Form.{Form}
 use Rattle.asm_source.specs.declared.tree.Form.TheVariants as form
 use Rattle.asm_source.specs.declared.tree.Argument.{Argument}
 use Rattle.asm_statement.specs.declared.directive.Directive.{Directive}
@@ -33,7 +26,7 @@ use Rattle.asm_source.specs.Names.{holds}
 use Rattle.asm_statement.specs.Definers.{is_defining, is_spent}
 use Rattle.asm_statement.specs.Scope.{has_room, pushed, noted, defined_too}
 use Rattle.asm_argument.specs.Operand.{finished, is_nothing}
-use Rattle.asm_argument.specs.Shapes.{is_operand, takes_numbers, fits, is_register, registers, signed, named, plain}
+use Rattle.asm_argument.specs.Shapes.{is_operand, takes_numbers, fits, named, plain}
 use Rattle.asm_argument.specs.Grammar.{IsValue, IsForm}
 use Rattle.asm_argument.specs.declared.escapes.Escape.TheVariants as escape
 use Rattle.asm_argument.specs.Escapes.{string_text}
@@ -43,223 +36,13 @@ use Rattle.asm_statement.specs.Items.{item_of, resumed, sectioned, is_passed, is
 use Rattle.asm_statement.specs.Directives.{shape_at, least, defines, is_section, is_dotted, directive_of, is_known, is_change}
 use Rattle.asm_parse.specs.Statements.{IsSeen, IsArgument, IsNext, Separated, HasArguments, has_list, Statement}
 use Rattle.asm_parse.proofs.Words.{read_words}
-use Rattle.asm_argument.proofs.Operands.{ok, operand_run}
 use Rattle.asm_parse.proofs.Names.{named_in}
-use Rattle.asm_parse.proofs.Scopes.{Each, GoodIn, same_holds}
+use Rattle.asm_parse.proofs.Scopes.{GoodIn}
 use Rattle.asm_parse.proofs.Quiet.{IsOpen, StateIs}
 use Rattle.asm_parse.proofs.Stated.{inners, inners_append, inners_words, word_is, open_at, instruction_operand, Gains, form_runs, comma_runs, end_runs, statement_runs, named_section, rest_runs}
-use Rattle.asm_parse.proofs.Written.{Piece, words_at, terminals_of, ArePieces, pieces-append, terminals_of-append, terminals-words_at, IsName, name_piece, one_piece, zero_piece, text_piece, end_piece, percent_piece, close_piece, comma_piece, colon_piece, letter, letter_name, low, low_name, text_section, section_name_is, the_name, the_one, the_zero, the_text, the_end, the_mark}
-
--- ---- one argument
-
-pub record Finish (sh : Shape) (p : Partial) : Type 0 where
-  pub pieces : List Piece
-  pub are : ArePieces pieces
-  pub last : Partial
-  pub form : Form
-  pub runs : operand_run sh p (terminals_of pieces) ≡ ok last
-  pub ends : finished last ≡ Some form
-  pub names : named_in last ≡ named_in p
-
-low_register : is_register low ≡ true
-unfolding is_register registers
-low_register = refl
-
-done : (sh : Shape) (p : Partial) (f : Form) → finished p ≡ Some f → Finish sh p
-done sh p f e = record { pieces = []; are = tt; last = p; form = f; runs = refl; ends = e; names = refl }
-
-number_nothing : (sh : Shape) → takes_numbers sh ≡ true → fits sh false 1 ≡ true → Finish sh partial.Nothing
-number_nothing sh t u = record {
-  pieces = the_one ∷ [];
-  are = (one_piece, tt);
-  last = partial.Number place.Memory (plain (pos 1));
-  form = form.Memory (Some (plain (pos 1))) None None 1;
-  runs = rw (t, u, operand_run) refl;
-  ends = refl;
-  names = refl;
-}
-
-finish_nothing : (sh : Shape) → (sh ≡ shape.Name → ⊥) → Finish sh partial.Nothing
-finish_nothing shape.Operand never = number_nothing shape.Operand refl refl
-finish_nothing shape.Value never = number_nothing shape.Value refl refl
-finish_nothing shape.Number never = number_nothing shape.Number refl refl
-finish_nothing shape.Count never = number_nothing shape.Count refl refl
-finish_nothing shape.Alignment never = number_nothing shape.Alignment refl refl
-finish_nothing shape.Power never = number_nothing shape.Power refl refl
-finish_nothing shape.Fill never = number_nothing shape.Fill refl refl
-finish_nothing shape.Name never = absurd (never refl)
-finish_nothing shape.Text never = record {
-  pieces = the_text ∷ [];
-  are = (text_piece, tt);
-  last = partial.Whole (form.Text (string_text escape.Open (34 ∷ 34 ∷ [])));
-  form = form.Text (string_text escape.Open (34 ∷ 34 ∷ []));
-  runs = refl;
-  ends = refl;
-  names = refl;
-}
-
-zero_fits : (sh : Shape) → fits sh true 0 ≡ true
-zero_fits shape.Count = refl
-zero_fits shape.Alignment = refl
-zero_fits shape.Power = refl
-zero_fits _ = refl
-
-low_close : ArePieces (the_name low ∷ the_mark 41 ∷ [])
-low_close = (name_piece low low_name, (close_piece, tt))
-
-pub finish : (sh : Shape) (p : Partial) → (is_nothing p ≡ true → sh ≡ shape.Name → ⊥) → Finish sh p
-finish sh partial.Nothing never = finish_nothing sh (never refl)
-finish sh partial.Absent never = done sh partial.Absent form.Absent refl
-finish sh partial.Percent never = record {
-  pieces = the_name low ∷ [];
-  are = (name_piece low low_name, tt);
-  last = partial.Whole (form.Register low);
-  form = form.Register low;
-  runs = rw (low_register, operand_run) refl;
-  ends = refl;
-  names = refl;
-}
-finish sh partial.Dollar never = record {
-  pieces = the_one ∷ [];
-  are = (one_piece, tt);
-  last = partial.Number place.Immediate (plain (pos 1));
-  form = form.Immediate (plain (pos 1));
-  runs = refl;
-  ends = refl;
-  names = refl;
-}
-finish sh (partial.Minus place.Memory) never = record {
-  pieces = the_zero ∷ [];
-  are = (zero_piece, tt);
-  last = partial.Number place.Memory (plain (signed true 0));
-  form = form.Memory (Some (plain (signed true 0))) None None 1;
-  runs = rw (zero_fits sh, operand_run) refl;
-  ends = refl;
-  names = refl;
-}
-finish sh (partial.Minus place.Immediate) never = record {
-  pieces = the_zero ∷ [];
-  are = (zero_piece, tt);
-  last = partial.Number place.Immediate (plain (signed true 0));
-  form = form.Immediate (plain (signed true 0));
-  runs = rw (zero_fits sh, operand_run) refl;
-  ends = refl;
-  names = refl;
-}
-finish sh (partial.Name place.Memory n) never =
-    done sh (partial.Name place.Memory n) (form.Memory (Some (named n (pos 0))) None None 1) refl
-finish sh (partial.Name place.Immediate n) never = done sh (partial.Name place.Immediate n) (form.Immediate (named n (pos 0))) refl
-finish sh (partial.Sign place.Memory n b) never = record {
-  pieces = the_one ∷ [];
-  are = (one_piece, tt);
-  last = partial.Number place.Memory (named n (signed b 1));
-  form = form.Memory (Some (named n (signed b 1))) None None 1;
-  runs = refl;
-  ends = refl;
-  names = refl;
-}
-finish sh (partial.Sign place.Immediate n b) never = record {
-  pieces = the_one ∷ [];
-  are = (one_piece, tt);
-  last = partial.Number place.Immediate (named n (signed b 1));
-  form = form.Immediate (named n (signed b 1));
-  runs = refl;
-  ends = refl;
-  names = refl;
-}
-finish sh (partial.SignMinus place.Memory n b) never = record {
-  pieces = the_one ∷ [];
-  are = (one_piece, tt);
-  last = partial.Number place.Memory (named n (signed (not b) 1));
-  form = form.Memory (Some (named n (signed (not b) 1))) None None 1;
-  runs = refl;
-  ends = refl;
-  names = refl;
-}
-finish sh (partial.SignMinus place.Immediate n b) never = record {
-  pieces = the_one ∷ [];
-  are = (one_piece, tt);
-  last = partial.Number place.Immediate (named n (signed (not b) 1));
-  form = form.Immediate (named n (signed (not b) 1));
-  runs = refl;
-  ends = refl;
-  names = refl;
-}
-finish sh (partial.Number place.Memory v) never = done sh (partial.Number place.Memory v) (form.Memory (Some v) None None 1) refl
-finish sh (partial.Number place.Immediate v) never = done sh (partial.Number place.Immediate v) (form.Immediate v) refl
-finish sh (partial.Open v) never = record {
-  pieces = the_mark 37 ∷ the_name low ∷ the_mark 41 ∷ [];
-  are = (percent_piece, low_close);
-  last = partial.Whole (form.Memory v (Some low) None 1);
-  form = form.Memory v (Some low) None 1;
-  runs = rw (low_register, operand_run) refl;
-  ends = refl;
-  names = refl;
-}
-finish sh (partial.BasePercent v) never = record {
-  pieces = the_name low ∷ the_mark 41 ∷ [];
-  are = low_close;
-  last = partial.Whole (form.Memory v (Some low) None 1);
-  form = form.Memory v (Some low) None 1;
-  runs = rw (low_register, operand_run) refl;
-  ends = refl;
-  names = refl;
-}
-finish sh (partial.Base v b) never = record {
-  pieces = the_mark 41 ∷ [];
-  are = (close_piece, tt);
-  last = partial.Whole (form.Memory v (Some b) None 1);
-  form = form.Memory v (Some b) None 1;
-  runs = refl;
-  ends = refl;
-  names = refl;
-}
-finish sh (partial.IndexComma v b) never = record {
-  pieces = the_mark 37 ∷ the_name low ∷ the_mark 41 ∷ [];
-  are = (percent_piece, low_close);
-  last = partial.Whole (form.Memory v b (Some low) 1);
-  form = form.Memory v b (Some low) 1;
-  runs = rw (low_register, operand_run) refl;
-  ends = refl;
-  names = refl;
-}
-finish sh (partial.IndexPercent v b) never = record {
-  pieces = the_name low ∷ the_mark 41 ∷ [];
-  are = low_close;
-  last = partial.Whole (form.Memory v b (Some low) 1);
-  form = form.Memory v b (Some low) 1;
-  runs = rw (low_register, operand_run) refl;
-  ends = refl;
-  names = refl;
-}
-finish sh (partial.Index v b i) never = record {
-  pieces = the_mark 41 ∷ [];
-  are = (close_piece, tt);
-  last = partial.Whole (form.Memory v b (Some i) 1);
-  form = form.Memory v b (Some i) 1;
-  runs = refl;
-  ends = refl;
-  names = refl;
-}
-finish sh (partial.Scale v b i) never = record {
-  pieces = the_one ∷ the_mark 41 ∷ [];
-  are = (one_piece, (close_piece, tt));
-  last = partial.Whole (form.Memory v b (Some i) 1);
-  form = form.Memory v b (Some i) 1;
-  runs = refl;
-  ends = refl;
-  names = refl;
-}
-finish sh (partial.Scaled v b i s) never = record {
-  pieces = the_mark 41 ∷ [];
-  are = (close_piece, tt);
-  last = partial.Whole (form.Memory v b (Some i) s);
-  form = form.Memory v b (Some i) s;
-  runs = refl;
-  ends = refl;
-  names = refl;
-}
-finish sh (partial.Whole f) never = done sh (partial.Whole f) f refl
+use Rattle.asm_parse.proofs.Written.{Piece, words_at, terminals_of, ArePieces, pieces-append, terminals_of-append, terminals-words_at, IsName, name_piece, one_piece, text_piece, end_piece, comma_piece, colon_piece, letter, letter_name, text_section, section_name_is, the_name, the_one, the_text, the_end, the_mark}
+use Rattle.asm_parse.proofs.Finishing.{Finish, finish}
+use Rattle.asm_parse.proofs.Unsaid.{Sayable, sayable, Definable, definable}
 
 -- ---- a statement
 
@@ -395,101 +178,6 @@ arguments_completed sc o w =
         by_terminals sc e.0 (state.Arguments o) (f.pieces ++ the_mark 44 ∷ the_one ∷ the_end ∷ [])
         (pieces-append f.pieces (the_mark 44 ∷ the_one ∷ the_end ∷ []) f.are (comma_piece, (one_piece, (end_piece, tt))))
         (joined f.pieces (the_mark 44 ∷ the_one ∷ the_end ∷ []) _ e.0 first e.1)
-
--- ---- names that can still be said
-
-record Sayable (sc : ScopeView) : Type 0 where
-  name : List ℕ
-  is : IsName name
-  room : has_room sc name ≡ true
-
-sayable : (sc : ScopeView) → GoodIn IsName sc → Sayable sc
-sayable sc g = by_room (nat_lt (length sc.names) 65536) refl
-  where
-    first_name : (ns : List (List ℕ)) → Each IsName ns → 1 ≤ length ns → (n : List ℕ) × IsName n × (holds ns n ≡ true)
-    first_name [] each le = absurd (omega arith)
-    first_name (n ∷ ns) each le = (n, each.0, rw (nat_list_eq_equiv.refl n) refl)
-
-    by_room : (t : Bool) → nat_lt (length sc.names) 65536 ≡ t → Sayable sc
-    by_room true e = record { name = letter; is = letter_name; room = or_right (holds sc.names letter) (nat_lt (length sc.names) 65536) e }
-    by_room false e =
-        let f = first_name sc.names g.each (omega (arith, ltb-false (length sc.names) 65536 e)) in
-        record { name = f.0; is = f.1; room = rw f.2 refl }
-
-record Definable (sc : ScopeView) : Type 0 where
-  name : List ℕ
-  is : IsName name
-  room : has_room sc name ≡ true
-  new : holds sc.defined name ≡ false
-
-total : List (List ℕ) → ℕ
-total [] = 0
-total (n ∷ ns) = length n + total ns
-
-long : List (List ℕ) → List ℕ
-long ns = 97 ∷ replicate (total ns) 97
-
-letters : (k : ℕ) → list_all is_word (replicate k 97) ≡ true
-unfolding is_word is_letter
-letters zero = refl
-letters (suc k) = letters k
-
-long_name : (ns : List (List ℕ)) → IsName (long ns)
-unfolding long class_of is_mark is_letter
-long_name ns = (refl, letters (total ns))
-
-longer_new : (ns : List (List ℕ)) (x : List ℕ) → total ns + 1 ≤ length x → holds ns x ≡ false
-unfolding total
-longer_new [] x le = refl
-longer_new (n ∷ ns) x le = by_test (bytes_eq x n) refl (longer_new ns x (omega arith))
-  where
-    by_test : (t : Bool) → bytes_eq x n ≡ t → holds ns x ≡ false → (bytes_eq x n || holds ns x) ≡ false
-    by_test true e rest = let same : x ≡ n = (bytes_eq-Decides x n).0 e in absurd (omega (arith, ap length same))
-    by_test false e rest = rw e rest
-
-long_new : (ns : List (List ℕ)) → holds ns (long ns) ≡ false
-unfolding long
-long_new ns = longer_new ns (long ns) (omega (arith, length-replicate {A = ℕ} (total ns) 97))
-
--- a name that isn't defined, or all are
-undefined : (defined ns : List (List ℕ)) → Each IsName ns → ((n : List ℕ) × IsName n × (holds ns n ≡ true) × (holds defined n ≡ false))
-    ⊎ ((q : List ℕ) → holds ns q ≡ true → holds defined q ≡ true)
-undefined defined [] each = inr (λ q h. absurd cc)
-undefined defined (n ∷ ns) each = by_test (holds defined n) refl (undefined defined ns each.1)
-  where
-    either : (q : List ℕ) (t : Bool) → bytes_eq q n ≡ t → (t || holds ns q) ≡ true → holds defined n ≡ true
-        → ((q : List ℕ) → holds ns q ≡ true → holds defined q ≡ true) → holds defined q ≡ true
-    either q true e h d all = same_holds defined q n e ∙ d
-    either q false e h d all = all q h
-
-    by_test : (t : Bool) → holds defined n ≡ t → ((m : List ℕ) × IsName m × (holds ns m ≡ true) × (holds defined m ≡ false))
-        ⊎ ((q : List ℕ) → holds ns q ≡ true → holds defined q ≡ true)
-        → ((m : List ℕ) × IsName m × (holds (n ∷ ns) m ≡ true) × (holds defined m ≡ false))
-        ⊎ ((q : List ℕ) → holds (n ∷ ns) q ≡ true → holds defined q ≡ true)
-    by_test false d rest = inl (n, each.0, rw (nat_list_eq_equiv.refl n) refl, d)
-    by_test true d (inl (m, is, k, new)) = inl (m, is, or_right (bytes_eq m n) (holds ns m) k, new)
-    by_test true d (inr all) = inr (λ q h. either q (bytes_eq q n) refl h d all)
-
-definable : (sc : ScopeView) → GoodIn IsName sc → is_spent sc ≡ false → Definable sc
-definable sc g spent = by_room (nat_lt (length sc.names) 65536) refl
-  where
-    few : (t : Bool) → nat_lt (length sc.defined) 65536 ≡ t → not t ≡ false → length sc.defined < 65536
-    few true e h = ltb-true (length sc.defined) 65536 e
-    few false e h = absurd cc
-
-    by_room : (t : Bool) → nat_lt (length sc.names) 65536 ≡ t → Definable sc
-    by_room true e = record {
-      name = long sc.defined;
-      is = long_name sc.defined;
-      room = or_right (holds sc.names (long sc.defined)) (nat_lt (length sc.names) 65536) e;
-      new = long_new sc.defined;
-    }
-    by_room false e = elim (undefined sc.defined sc.names g.each) [
-      | inl (n, is, k, new) ↦ record { name = n; is = is; room = rw k refl; new = new }
-      | inr all ↦
-          let le = length-le_from_is_member nat_list_eq_equiv sc.names sc.defined g.apart all in
-          absurd (omega (arith, le, few (nat_lt (length sc.defined) 65536) refl spent, ltb-false (length sc.names) 65536 e))
-    ]
 
 -- ---- after a name
 

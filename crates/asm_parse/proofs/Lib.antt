@@ -11,6 +11,8 @@ pub mod Stated
 pub mod Said
 pub mod Collected
 pub mod Written
+pub mod Finishing
+pub mod Unsaid
 pub mod Completing
 pub mod Closing
 pub mod Sources

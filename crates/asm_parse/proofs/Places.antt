@@ -43,7 +43,7 @@ use Rattle.asm_parse.proofs.Collected.{InName, Held}
 use Rattle.asm_parse.proofs.Tails.{percents, spelled_tail}
 use Rattle.asm_parse.proofs.Refusing.{noting_cause, not_both}
 use Rattle.asm_parse.proofs.Stopping.{argument_refused, same_fault}
-use Rattle.asm_parse.proofs.Completing.{finish}
+use Rattle.asm_parse.proofs.Finishing.{finish}
 use Rattle.asm_parse.proofs.Written.{terminals_of}
 use Rattle.asm_parse.proofs.Quiet.{Answer}
 

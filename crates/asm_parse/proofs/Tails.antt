@@ -102,81 +102,32 @@ record Ends (ss : List Terminal) (a b c d e : Bool) : Type 0 where
 after : (f ss : List Terminal) (a b c d e : Bool) → Clear f → Ends ss a b c d e → Tail (f ++ ss) a b c d e
 after f ss a b c d e k n = subst (λ (x : List Terminal). Tail (f ++ x) a b c d e) (sym n.whole) (behind f n.first n.rest a b c d e k n.tail)
 
-value_ends : {sh : Shape} {vs : List Terminal} {v : Value} → IsValue sh vs v → Ends vs false false false false false
-value_ends (IsValue.number t u) = record {
-  first = _;
-  rest = _;
-  whole = refl;
-  tail = record { percent_is = refl; index_is = refl; minus_is = refl; sign_is = refl; free_is = refl };
-}
-value_ends (IsValue.negative t u x) = record {
-  first = _;
-  rest = _;
-  whole = refl;
-  tail = record { percent_is = refl; index_is = refl; minus_is = refl; sign_is = refl; free_is = refl };
-}
-value_ends (IsValue.name t) = record {
-  first = _;
-  rest = _;
-  whole = refl;
-  tail = record { percent_is = refl; index_is = refl; minus_is = refl; sign_is = refl; free_is = refl };
-}
-value_ends (IsValue.sum t u IsConstant.bare) = record {
-  first = _;
-  rest = _;
-  whole = refl;
-  tail = record { percent_is = refl; index_is = refl; minus_is = refl; sign_is = refl; free_is = refl };
-}
-value_ends (IsValue.sum t u (IsConstant.minus x)) = record {
-  first = _;
-  rest = _;
-  whole = refl;
-  tail = record { percent_is = refl; index_is = refl; minus_is = refl; sign_is = refl; free_is = refl };
-}
-value_ends (IsValue.difference t u IsConstant.bare) = record {
-  first = _;
-  rest = _;
-  whole = refl;
-  tail = record { percent_is = refl; index_is = refl; minus_is = refl; sign_is = refl; free_is = refl };
-}
-value_ends (IsValue.difference t u (IsConstant.minus x)) = record {
+-- what it says of a list that is at hand
+at_hand : {p : Terminal} {ps : List Terminal}
+    → Ends (p ∷ ps) (is_percent (last_of (p ∷ ps))) (ends_index (p ∷ ps)) (is_minus (last_of (p ∷ ps))) (is_sign (last_of (p ∷ ps)))
+    (is_for_terminal (last_of (p ∷ ps)))
+at_hand = record {
   first = _;
   rest = _;
   whole = refl;
   tail = record { percent_is = refl; index_is = refl; minus_is = refl; sign_is = refl; free_is = refl };
 }
 
+value_ends : {sh : Shape} {vs : List Terminal} {v : Value} → IsValue sh vs v → Ends vs false false false false false
+value_ends (IsValue.number t u) = at_hand
+value_ends (IsValue.negative t u x) = at_hand
+value_ends (IsValue.name t) = at_hand
+value_ends (IsValue.sum t u IsConstant.bare) = at_hand
+value_ends (IsValue.sum t u (IsConstant.minus x)) = at_hand
+value_ends (IsValue.difference t u IsConstant.bare) = at_hand
+value_ends (IsValue.difference t u (IsConstant.minus x)) = at_hand
+
 address_ends : {ss : List Terminal} {b i : Option (List ℕ)} {s : ℕ} → IsAddress ss b i s → Ends ss false false false false false
-address_ends (IsAddress.base r) = record {
-  first = _;
-  rest = _;
-  whole = refl;
-  tail = record { percent_is = refl; index_is = refl; minus_is = refl; sign_is = refl; free_is = refl };
-}
-address_ends (IsAddress.index r) = record {
-  first = _;
-  rest = _;
-  whole = refl;
-  tail = record { percent_is = refl; index_is = refl; minus_is = refl; sign_is = refl; free_is = refl };
-}
-address_ends (IsAddress.scaled r t) = record {
-  first = _;
-  rest = _;
-  whole = refl;
-  tail = record { percent_is = refl; index_is = refl; minus_is = refl; sign_is = refl; free_is = refl };
-}
-address_ends (IsAddress.base_index r t) = record {
-  first = _;
-  rest = _;
-  whole = refl;
-  tail = record { percent_is = refl; index_is = refl; minus_is = refl; sign_is = refl; free_is = refl };
-}
-address_ends (IsAddress.base_scaled r t u) = record {
-  first = _;
-  rest = _;
-  whole = refl;
-  tail = record { percent_is = refl; index_is = refl; minus_is = refl; sign_is = refl; free_is = refl };
-}
+address_ends (IsAddress.base r) = at_hand
+address_ends (IsAddress.index r) = at_hand
+address_ends (IsAddress.scaled r t) = at_hand
+address_ends (IsAddress.base_index r t) = at_hand
+address_ends (IsAddress.base_scaled r t u) = at_hand
 
 -- the same after what is clear
 ends_longer : (f ss : List Terminal) (a b c d e : Bool) → Clear f → Ends ss a b c d e → Ends (f ++ ss) a b c d e
@@ -188,18 +139,8 @@ same_ends ss ts a b c d e h n = subst (λ (x : List Terminal). Ends x a b c d e)
 
 form_ends : (sh : Shape) (ss : List Terminal) (f : Form) → (ss ≡ [] → ⊥) → IsForm sh ss f → Ends ss false false false false false
 form_ends sh ss f never (IsForm.absent h) = absurd (never refl)
-form_ends sh ss f never (IsForm.text h) = record {
-  first = _;
-  rest = _;
-  whole = refl;
-  tail = record { percent_is = refl; index_is = refl; minus_is = refl; sign_is = refl; free_is = refl };
-}
-form_ends sh ss f never (IsForm.register h r) = record {
-  first = _;
-  rest = _;
-  whole = refl;
-  tail = record { percent_is = refl; index_is = refl; minus_is = refl; sign_is = refl; free_is = refl };
-}
+form_ends sh ss f never (IsForm.text h) = at_hand
+form_ends sh ss f never (IsForm.register h r) = at_hand
 form_ends sh ss f never (IsForm.immediate {ss = vs} h v) =
     ends_longer (terminal.Dollar ∷ []) vs false false false false false (clear_lead place.Immediate) (value_ends v)
 form_ends sh ss f never (IsForm.value v) = value_ends v
@@ -213,105 +154,35 @@ lead_ends : (p : ValuePlace) (ss : List Terminal) (a b c d e : Bool) → Ends ss
 lead_ends p ss a b c d e n = ends_longer (lead p) ss a b c d e (clear_lead p) n
 
 sign_ends : (n : List ℕ) (neg : Bool) → Ends (terminal.Name n ∷ sign neg ∷ []) false false neg true false
-sign_ends n true = record {
-  first = _;
-  rest = _;
-  whole = refl;
-  tail = record { percent_is = refl; index_is = refl; minus_is = refl; sign_is = refl; free_is = refl };
-}
-sign_ends n false = record {
-  first = _;
-  rest = _;
-  whole = refl;
-  tail = record { percent_is = refl; index_is = refl; minus_is = refl; sign_is = refl; free_is = refl };
-}
+sign_ends n true = at_hand
+sign_ends n false = at_hand
 
 sign_minus_ends : (n : List ℕ) (neg : Bool) → Ends (terminal.Name n ∷ sign neg ∷ terminal.Minus ∷ []) false false true true false
-sign_minus_ends n true = record {
-  first = _;
-  rest = _;
-  whole = refl;
-  tail = record { percent_is = refl; index_is = refl; minus_is = refl; sign_is = refl; free_is = refl };
-}
-sign_minus_ends n false = record {
-  first = _;
-  rest = _;
-  whole = refl;
-  tail = record { percent_is = refl; index_is = refl; minus_is = refl; sign_is = refl; free_is = refl };
-}
+sign_minus_ends n true = at_hand
+sign_minus_ends n false = at_hand
 
 percent_part : (b : Option (List ℕ)) → Ends (base_part b ++ terminal.Percent ∷ []) true false false false false
-percent_part None = record {
-  first = _;
-  rest = _;
-  whole = refl;
-  tail = record { percent_is = refl; index_is = refl; minus_is = refl; sign_is = refl; free_is = refl };
-}
-percent_part (Some b) = record {
-  first = _;
-  rest = _;
-  whole = refl;
-  tail = record { percent_is = refl; index_is = refl; minus_is = refl; sign_is = refl; free_is = refl };
-}
+percent_part None = at_hand
+percent_part (Some b) = at_hand
 
 base_ends : (b : Option (List ℕ)) → Ends (base_part b) false false false false false
-base_ends None = record {
-  first = _;
-  rest = _;
-  whole = refl;
-  tail = record { percent_is = refl; index_is = refl; minus_is = refl; sign_is = refl; free_is = refl };
-}
-base_ends (Some b) = record {
-  first = _;
-  rest = _;
-  whole = refl;
-  tail = record { percent_is = refl; index_is = refl; minus_is = refl; sign_is = refl; free_is = refl };
-}
+base_ends None = at_hand
+base_ends (Some b) = at_hand
 
 index_part : (b : Option (List ℕ)) (i : List ℕ) → Ends (base_part b ++ terminal.Percent ∷ terminal.Name i ∷ []) false
     false false false false
-index_part None i = record {
-  first = _;
-  rest = _;
-  whole = refl;
-  tail = record { percent_is = refl; index_is = refl; minus_is = refl; sign_is = refl; free_is = refl };
-}
-index_part (Some b) i = record {
-  first = _;
-  rest = _;
-  whole = refl;
-  tail = record { percent_is = refl; index_is = refl; minus_is = refl; sign_is = refl; free_is = refl };
-}
+index_part None i = at_hand
+index_part (Some b) i = at_hand
 
 scale_part : (b : Option (List ℕ)) (i : List ℕ) → Ends (base_part b ++ terminal.Percent ∷ terminal.Name i ∷ terminal.Comma ∷ []) false
     true false false false
-scale_part None i = record {
-  first = _;
-  rest = _;
-  whole = refl;
-  tail = record { percent_is = refl; index_is = refl; minus_is = refl; sign_is = refl; free_is = refl };
-}
-scale_part (Some b) i = record {
-  first = _;
-  rest = _;
-  whole = refl;
-  tail = record { percent_is = refl; index_is = refl; minus_is = refl; sign_is = refl; free_is = refl };
-}
+scale_part None i = at_hand
+scale_part (Some b) i = at_hand
 
 scaled_part : (b : Option (List ℕ)) (i : List ℕ) (s : ℕ)
     → Ends (base_part b ++ terminal.Percent ∷ terminal.Name i ∷ terminal.Comma ∷ terminal.Number s ∷ []) false false false false false
-scaled_part None i s = record {
-  first = _;
-  rest = _;
-  whole = refl;
-  tail = record { percent_is = refl; index_is = refl; minus_is = refl; sign_is = refl; free_is = refl };
-}
-scaled_part (Some b) i s = record {
-  first = _;
-  rest = _;
-  whole = refl;
-  tail = record { percent_is = refl; index_is = refl; minus_is = refl; sign_is = refl; free_is = refl };
-}
+scaled_part None i s = at_hand
+scaled_part (Some b) i s = at_hand
 
 abbrev EndsAs : Partial → List Terminal → Type 0
 EndsAs p ss = Ends ss (percents p) (indexed p) (minuses p) (signs p) (frees p)
@@ -324,65 +195,23 @@ spelled_ends : (sh : Shape) (p : Partial) (ss : List Terminal) → (ss ≡ [] �
 spelled_ends sh partial.Nothing ss never h = absurd (never h)
 spelled_ends sh partial.Absent ss never h = absurd (never h.0)
 spelled_ends sh partial.Percent ss never h =
-    same_ends ss _ _ _ _ _ _ h.1
-    (record {
-      first = _;
-      rest = _;
-      whole = refl;
-      tail = record { percent_is = refl; index_is = refl; minus_is = refl; sign_is = refl; free_is = refl };
-    })
+    same_ends ss _ _ _ _ _ _ h.1 at_hand
 spelled_ends sh partial.Dollar ss never h =
-    same_ends ss _ _ _ _ _ _ h.1
-    (record {
-      first = _;
-      rest = _;
-      whole = refl;
-      tail = record { percent_is = refl; index_is = refl; minus_is = refl; sign_is = refl; free_is = refl };
-    })
+    same_ends ss _ _ _ _ _ _ h.1 at_hand
 spelled_ends sh (partial.Minus p) ss never h =
     same_ends ss _ _ _ _ _ _ h.2
-    (lead_ends p _ _ _ _ _ _
-    (record {
-      first = _;
-      rest = _;
-      whole = refl;
-      tail = record { percent_is = refl; index_is = refl; minus_is = refl; sign_is = refl; free_is = refl };
-    }))
+    (lead_ends p _ _ _ _ _ _ at_hand)
 spelled_ends sh (partial.Name p n) ss never h =
     same_ends ss _ _ _ _ _ _ h.2
-    (lead_ends p _ _ _ _ _ _
-    (record {
-      first = _;
-      rest = _;
-      whole = refl;
-      tail = record { percent_is = refl; index_is = refl; minus_is = refl; sign_is = refl; free_is = refl };
-    }))
+    (lead_ends p _ _ _ _ _ _ at_hand)
 spelled_ends sh (partial.Sign p n true) ss never h = same_ends ss _ _ _ _ _ _ h.2 (lead_ends p _ _ _ _ _ _ (sign_ends n true))
 spelled_ends sh (partial.Sign p n false) ss never h = same_ends ss _ _ _ _ _ _ h.2 (lead_ends p _ _ _ _ _ _ (sign_ends n false))
 spelled_ends sh (partial.SignMinus p n neg) ss never h = same_ends ss _ _ _ _ _ _ h.2 (lead_ends p _ _ _ _ _ _ (sign_minus_ends n neg))
 spelled_ends sh (partial.Number p v) ss never h = same_ends ss _ _ _ _ _ _ h.3 (lead_ends p _ _ _ _ _ _ (value_ends h.2))
 spelled_ends sh (partial.Whole f) ss never h = form_ends sh ss f never h
-spelled_ends sh (partial.Open v) ss never h = in_address sh (partial.Open v) ss _ h h.inside.1
-    (record {
-      first = _;
-      rest = _;
-      whole = refl;
-      tail = record { percent_is = refl; index_is = refl; minus_is = refl; sign_is = refl; free_is = refl };
-    })
-spelled_ends sh (partial.BasePercent v) ss never h = in_address sh (partial.BasePercent v) ss _ h h.inside.1
-    (record {
-      first = _;
-      rest = _;
-      whole = refl;
-      tail = record { percent_is = refl; index_is = refl; minus_is = refl; sign_is = refl; free_is = refl };
-    })
-spelled_ends sh (partial.Base v b) ss never h = in_address sh (partial.Base v b) ss _ h h.inside.1
-    (record {
-      first = _;
-      rest = _;
-      whole = refl;
-      tail = record { percent_is = refl; index_is = refl; minus_is = refl; sign_is = refl; free_is = refl };
-    })
+spelled_ends sh (partial.Open v) ss never h = in_address sh (partial.Open v) ss _ h h.inside.1 at_hand
+spelled_ends sh (partial.BasePercent v) ss never h = in_address sh (partial.BasePercent v) ss _ h h.inside.1 at_hand
+spelled_ends sh (partial.Base v b) ss never h = in_address sh (partial.Base v b) ss _ h h.inside.1 at_hand
 spelled_ends sh (partial.IndexComma v b) ss never h = in_address sh (partial.IndexComma v b) ss _ h h.inside.1 (base_ends b)
 spelled_ends sh (partial.IndexPercent v b) ss never h = in_address sh (partial.IndexPercent v b) ss _ h h.inside.1 (percent_part b)
 spelled_ends sh (partial.Index v b i) ss never h = in_address sh (partial.Index v b i) ss _ h h.inside.1 (index_part b i)
