@@ -1,5 +1,5 @@
 -- The outcome of a try at the instruction at EIP, from the outcome of its fetch.
-use Rattle.std.proofs.Common.{◌≡◌, ℕ, ◌==◌, List, true, false, refl, ap, subst, ◌∙◌, Option, Some, None, Ok, Err}
+use Rattle.std.proofs.Common.{◌≡◌, ℕ, ◌==◌, List, Bool, true, false, refl, ap, subst, ◌∙◌, Option, Some, None, Ok, Err}
 use Rattle.std.specs.Prelude.{Result, IfOk, IfSome}
 use Rattle.ia32_types.specs.declared.insn.Insn.{Insn}
 use Rattle.ia32_types.specs.declared.stop.Stop.{Stop}
@@ -19,7 +19,7 @@ use Rattle.machine_model.specs.Step.{after_fetch, after_refusal, by_decoded, fet
 use Rattle.machine_step.specs.declared.worked.Worked.{Worked}
 use Rattle.machine_step.specs.Worked.{ComesTo}
 use Rattle.wedge_core.specs.Prepared.{PreparesAs, gone, prepared}
-use Rattle.wedge_core.specs.Tries.{TriesAs}
+use Rattle.wedge_core.specs.Tries.{TriesAs, tried}
 use Rattle.wedge_core.proofs.Preparing.{prepared_is, refused_as}
 use Rattle.wedge_core.proofs.Uncounted.{refused_none, others_uncounted}
 
@@ -72,6 +72,26 @@ if_gone fact (Err stop) h = tt
 pub of_gone : (fact : Worked → Type 0) (w : Result Worked Stop) → IfOk w fact → IfOk (gone w) (λ o. IfSome o fact)
 of_gone fact (Ok worked) h = h
 of_gone fact (Err stop) h = tt
+
+-- the same of the answer, where a step that went is recorded in its place
+pub by_tried : (fact : Type 0) (r : Result Bool Stop) (w : Worked) → IfOk (tried r w) (λ _. fact) → IfOk r (λ _. fact)
+by_tried fact (Ok true) w h = h
+by_tried fact (Ok false) w h = h
+by_tried fact (Err stop) w h = tt
+
+pub went_tries : (m : Setting) (b : State) (s : Space) (went : Bool) (w : Worked) (board : Board) (t : Space) → went ≡ true
+    → TriesAs m b s (tried (Ok went) w) board t → TriesAs m b s (Ok (Some w)) board t
+went_tries m b s true w board t e h = h
+went_tries m b s false w board t e h = absurd (let f : false ≡ true = e in cc)
+
+pub asks_tries : (m : Setting) (b : State) (s : Space) (went : Bool) (w : Worked) (board : Board) (t : Space) → went ≡ false
+    → TriesAs m b s (tried (Ok went) w) board t → TriesAs m b s (Ok None) board t
+asks_tries m b s false w board t e h = h
+asks_tries m b s true w board t e h = absurd (let f : true ≡ false = e in cc)
+
+pub of_went : (fact : Worked → Type 0) (went : Bool) (w : Worked) → went ≡ true → IfOk (tried (Ok went) w) (λ o. IfSome o fact) → fact w
+of_went fact true w e h = h
+of_went fact false w e h = absurd (let f : false ≡ true = e in cc)
 
 -- what is hidden stays so over both parts of a step
 pub hidden_on : (first last : Option Text) (frames count : ℕ) (old mid new : List ℕ) → last ≡ first → count ≡ frames

@@ -1,5 +1,5 @@
 -- What the host did at one call, and where that leaves the guest.
-use Rattle.std.specs.Prelude.{◌≡◌, ℕ, ◌+◌, ◌≤◌, ◌<◌, List, true, false}
+use Rattle.std.specs.Prelude.{◌≡◌, ℕ, ◌+◌, ◌≤◌, ◌<◌, Bool, List, true, false}
 use Rattle.ia32_types.specs.declared.addresses.TheConstants.{WINDOW_BELOW, WINDOW_END}
 use Rattle.ia32_types.specs.declared.flags.Regs.{Regs}
 use Rattle.board.specs.Quiet.{board_steps, comes_within}
@@ -56,10 +56,11 @@ pub record Ran {S : Type 0} (v : View) (k : ℕ) (s : Standing) (old : Running S
   }
 
 -- The host was asked for as many instructions as pass before the next edge or event, and for no more than `limit`. The events
--- of this step were given.
+-- of this step were given. Of a stretch that is cut short it did some, and fewer than it was asked for.
 pub record RanOn {S : Type 0} (v : View) (script : Events) (limit : ℕ) (s : Standing) (old : Running S) (done : ℕ) (new : Running S)
-    (then : Hosted) : Type 0 where
+    (then : Hosted) (cut : Bool) : Type 0 where
   pub asked : ℕ
   pub most : asked ≤ limit
   pub furthest : asked < limit → comes_within old.board script old.step asked ≡ true
   pub ran : Ran v asked s old done new then
+  pub short : cut ≡ true → done < asked

@@ -1,6 +1,6 @@
 -- The outcome of a try at the instruction at EIP, of a processor that takes no interrupt and is awake: the step went, or the
 -- instruction is prepared for the host.
-use Rattle.std.specs.Prelude.{◌≡◌, ◌⊎◌, ℕ, ◌==◌, List, [], true, false, Option, Some, None, Result, Ok, Err}
+use Rattle.std.specs.Prelude.{◌≡◌, ◌⊎◌, ℕ, ◌==◌, List, [], Bool, true, false, Option, Some, None, Result, Ok, Err}
 use Rattle.ia32_types.specs.declared.stop.Stop.{Stop}
 use Rattle.ia32_types.specs.declared.flags.Regs.{Regs}
 use Rattle.ia32_types.specs.declared.insn.Insn.{Insn}
@@ -47,6 +47,12 @@ abbrev pub OthersAreUsers : State → Space → Type 0
 OthersAreUsers b s =
     (insn : Insn) (len : ℕ) (after_fetch : Space) → fetched (b.cpu.cpl == 3) b.cpu.regs.eip s ≡ Ok (begins.Insn insn len, after_fetch)
     → is_native (b.cpu.cpl == 3) insn.op ≡ false → IsUser b.cpu ⊎ (is_software insn.op ≡ true)
+
+-- the answer, where a step that went is recorded in its place
+abbrev pub tried : Result Bool Stop → Worked → Result (Option Worked) Stop
+tried (Ok true) worked = Ok (Some worked)
+tried (Ok false) worked = Ok None
+tried (Err stop) worked = Err stop
 
 -- Of a step that went here the host did nothing, so nothing of it is direct.
 abbrev pub TriesAs : Setting → State → Space → Result (Option Worked) Stop → Board → Space → Type 0

@@ -1,6 +1,30 @@
 //! One step whose instruction the host does, where it is done.
 
-ghost use Rattle.std.specs.Prelude.{◌≡◌, ℕ, Bool, ◌+◌, ◌*◌, ◌/◌, ◌%◌, ◌==◌, ◌≤◌, ◌<◌, ◌^◌, List, length, true, false, take, None, Ok, OnOk, OnErr, IfErr, IfOk, IfSome};
+ghost use Rattle.std.specs.Prelude.{
+  ◌≡◌,
+  ℕ,
+  Bool,
+  ◌+◌,
+  ◌*◌,
+  ◌/◌,
+  ◌%◌,
+  ◌==◌,
+  ◌≤◌,
+  ◌<◌,
+  ◌^◌,
+  List,
+  length,
+  true,
+  false,
+  take,
+  None,
+  Ok,
+  OnOk,
+  OnErr,
+  IfErr,
+  IfOk,
+  IfSome,
+};
 ghost use Rattle.std.specs.FinMap.{empty};
 ghost use Rattle.frame_pool.specs.Pool.{free_list};
 ghost use Rattle.frame_pool.specs.Held.{Moves};
@@ -26,7 +50,7 @@ ghost use Rattle.wedge_core.specs.Attempted.{Attempts, TriesOnce};
 ghost use Rattle.wedge_core.specs.Losing.{IsClearIn, KeepsOtherRoots, LosesByClash, MovesInEach, StaysBeside};
 ghost use Rattle.wedge_core.specs.Prepared.{PreparesAs, gone, prepared};
 ghost use Rattle.wedge_core.specs.Scenes.{IsHeldIn, IsReadyIn, StaysHeld};
-ghost use Rattle.wedge_core.specs.Tries.{TriesAs};
+ghost use Rattle.wedge_core.specs.Tries.{TriesAs, tried};
 ghost use Rattle.wedge_core.specs.Views.{may_run};
 
 use crate::laws::native_laws;
@@ -79,7 +103,7 @@ fn is_native(insn: &Insn, cpu: &Cpu) -> bool
 }
 
 /// Begins the step of a processor that takes no interrupt, is not halted, and is at level 3 or at a start outside sites.
-/// Its state takes the place of an earlier step's.
+/// Its state and its outcome take the places of an earlier step's.
 pub fn begin_native<'t, S: Reloads + Drop>(
     running: &mut Running<S>,
     pool: &mut Pool,
@@ -88,6 +112,7 @@ pub fn begin_native<'t, S: Reloads + Drop>(
     text: &'t Option<Text<'t>>,
     notes_wanted: bool,
     state: &mut StepState<'t>,
+    worked: &mut Worked,
 ) -> Result<Attempt, Stop>
     requires text { IsOriginal image.now text.now }
     requires between { IsBetween S.Shadows image.now (scene running.old pool.old ram.old) }
@@ -101,7 +126,7 @@ pub fn begin_native<'t, S: Reloads + Drop>(
 {
     known_laws();
     make_room(running, pool, ram, image);
-    try_once(running, pool, ram, image, text, notes_wanted, state)
+    try_once(running, pool, ram, image, text, notes_wanted, state, worked)
 }
 
 /// Begins the step, where frames are free for the pages of an instruction, and the next one doesn't clash with what is kept.
@@ -113,6 +138,7 @@ fn try_once<'t, S: Reloads + Drop>(
     text: &'t Option<Text<'t>>,
     notes_wanted: bool,
     state: &mut StepState<'t>,
+    worked: &mut Worked,
 ) -> Result<Attempt, Stop>
     requires text { IsOriginal image.now text.now }
     requires held { IsHeldIn S.Shadows (ground image.now running.old.frames) (scene running.old pool.old ram.old) }
@@ -139,17 +165,18 @@ fn try_once<'t, S: Reloads + Drop>(
     let mut cpu = running.cpu;
     cpu.held = false;
     begin_over(&cpu, ram, &kept, running.frames, image, text, state);
-    match try_native(&rules, &cpu, &mut running.board, ram, &kept, state) {
+    match try_native(&rules, &cpu, &mut running.board, ram, &kept, state, worked) {
         Err(stop) => Err(stop),
-        Ok(Some(worked)) => {
-            are_bytes(ram, image, running.frames);
-            let count = text_frames(image);
-            finish_step(running, pool, ram, state, &worked, count, notes_wanted);
-            Ok(Attempt::Stepped(worked.seen))
-        }
-        Ok(None) => {
-            fill_used(running, pool, ram, state, text_frames(image));
-            Ok(Attempt::Asked)
+        Ok(went) => {
+            if went {
+                are_bytes(ram, image, running.frames);
+                let count = text_frames(image);
+                finish_step(running, pool, ram, state, worked, count, notes_wanted);
+                Ok(Attempt::Stepped(worked.seen))
+            } else {
+                fill_used(running, pool, ram, state, text_frames(image));
+                Ok(Attempt::Asked)
+            }
         }
     }
 }
@@ -247,8 +274,8 @@ fn drop_dirs<S: Reloads>(shadows: &mut S, ram: &mut Ram)
     }
 }
 
-/// Fetches the instruction. None where the host is to do it: its ranges are translated, and its effect is done. From here
-/// on the parts of the step's memory are one value.
+/// Fetches the instruction. False where the host is to do it: its ranges are translated, and its effect is found. Else the
+/// step went, and is recorded in its place. From here on the parts of the step's memory are one value.
 fn try_native<B: Translations>(
     rules: &Rules,
     cpu: &Cpu,
@@ -256,7 +283,8 @@ fn try_native<B: Translations>(
     ram: &mut Ram,
     kept: &B,
     state: &mut StepState,
-) -> Result<Option<Worked>, Stop>
+    worked: &mut Worked,
+) -> Result<bool, Stop>
     requires able { IsAble cpu.now }
     requires sound { IsSoundOver B.Translations kept.now ram.old state.old }
     requires pages { state.old.pages ≡ 0 }
@@ -264,12 +292,13 @@ fn try_native<B: Translations>(
     ensures uses { IfOk result (λ _. Uses (cpu.now.cpl == 3) (space B.Translations kept.now ram.old state.old)
         (space B.Translations kept.now ram.new state.new)) }
     ensures tries { (m : Setting) (b : Whole) → IsRuled m rules.now → TriesAs m (record b { cpu = cpu.now; board = board.old })
-        (space B.Translations kept.now ram.old state.old) result board.new (space B.Translations kept.now ram.new state.new) }
-    ensures dropped { IfOk result (λ o. IfSome o (λ w. IsDropped w.dropped)) }
-    ensures roots { IfOk result (λ o. IfSome o (λ w. RootsAs cpu.now w)) }
+        (space B.Translations kept.now ram.old state.old) (tried result worked.new) board.new
+        (space B.Translations kept.now ram.new state.new) }
+    ensures dropped { IfOk (tried result worked.new) (λ o. IfSome o (λ w. IsDropped w.dropped)) }
+    ensures roots { IfOk (tried result worked.new) (λ o. IfSome o (λ w. RootsAs cpu.now w)) }
     ensures stays { FetchesIn state.old state.new ram.old ram.new }
 {
-    try_over(rules, cpu, board, &mut Memory { ram, kept, state })
+    try_over(rules, cpu, board, &mut Memory { ram, kept, state }, worked)
 }
 
 fn try_over<M: StepMemory>(
@@ -277,35 +306,39 @@ fn try_over<M: StepMemory>(
     cpu: &Cpu,
     board: &mut Board,
     mem: &mut M,
-) -> Result<Option<Worked>, Stop>
+    worked: &mut Worked,
+) -> Result<bool, Stop>
     requires able { IsAble cpu.now }
     requires pages { (M.space mem.old).pages ≡ 0 }
     ensures uses { IfOk result (λ _. Uses (cpu.now.cpl == 3) (M.space mem.old) (M.space mem.new)) }
     ensures tries { (m : Setting) (b : Whole) → IsRuled m rules.now → TriesAs m (record b { cpu = cpu.now; board = board.old })
-        (M.space mem.old) result board.new (M.space mem.new) }
-    ensures dropped { IfOk result (λ o. IfSome o (λ w. IsDropped w.dropped)) }
-    ensures roots { IfOk result (λ o. IfSome o (λ w. RootsAs cpu.now w)) }
+        (M.space mem.old) (tried result worked.new) board.new (M.space mem.new) }
+    ensures dropped { IfOk (tried result worked.new) (λ o. IfSome o (λ w. IsDropped w.dropped)) }
+    ensures roots { IfOk (tried result worked.new) (λ o. IfSome o (λ w. RootsAs cpu.now w)) }
     ensures frame { M.frame mem.new ≡ M.frame mem.old }
 {
     match fetch_at(mem, cpu.cpl == 3, cpu.regs.eip) {
-        Err(refusal) => gone(refuse(rules, cpu, mem, refusal)),
+        Err(refusal) => gone(refuse(rules, cpu, mem, refusal), worked),
         Ok(Decoded::Insn(insn, len)) => {
             if is_native(&insn, cpu) {
-                prepare(rules, &insn, len, cpu, mem)
+                prepare(rules, &insn, len, cpu, mem, worked)
             } else {
-                gone(carry_out(rules, &insn, len, cpu, board, mem))
+                gone(carry_out(rules, &insn, len, cpu, board, mem), worked)
             }
         }
         Ok(_) => Err(Stop::Unsupported),
     }
 }
 
-/// A step of which the host does nothing: it went, or it stops.
-fn gone(worked: Result<Worked, Stop>) -> Result<Option<Worked>, Stop>
-    ensures { result ≡ gone worked }
+/// A step of which the host does nothing: it went, and is recorded in its place, or it stops.
+fn gone(came: Result<Worked, Stop>, worked: &mut Worked) -> Result<bool, Stop>
+    ensures { tried result worked.new ≡ gone came }
 {
-    match worked {
-        Ok(worked) => Ok(Some(worked)),
+    match came {
+        Ok(came) => {
+            *worked = came;
+            Ok(true)
+        }
         Err(stop) => Err(stop),
     }
 }
@@ -317,21 +350,22 @@ fn prepare<M: StepMemory>(
     len: u8,
     cpu: &Cpu,
     mem: &mut M,
-) -> Result<Option<Worked>, Stop>
+    worked: &mut Worked,
+) -> Result<bool, Stop>
     requires spelled { (bytes : List ℕ) × Spells bytes insn.now }
     requires native { is_native (cpu.now.cpl == 3) insn.now.op ≡ true }
     requires able { IsAble cpu.now }
     requires pages { (M.space mem.old).pages ≤ 8 }
     ensures uses { IfOk result (λ _. Uses (cpu.now.cpl == 3) (M.space mem.old) (M.space mem.new)) }
     ensures prepares { (m : Setting) (b : Whole) → IsRuled m rules.now → PreparesAs m (record b { cpu = cpu.now }) insn.now len
-        (M.space mem.old) result (M.space mem.new) }
-    ensures dropped { IfOk result (λ o. IfSome o (λ w. IsDropped w.dropped)) }
-    ensures roots { IfOk result (λ o. IfSome o (λ w. RootsAs cpu.now w)) }
+        (M.space mem.old) (tried result worked.new) (M.space mem.new) }
+    ensures dropped { IfOk (tried result worked.new) (λ o. IfSome o (λ w. IsDropped w.dropped)) }
+    ensures roots { IfOk (tried result worked.new) (λ o. IfSome o (λ w. RootsAs cpu.now w)) }
     ensures frame { M.frame mem.new ≡ M.frame mem.old }
 {
     match weigh(insn, len, cpu, mem) {
-        Ok(()) => Ok(None),
-        Err(refusal) => gone(refuse(rules, cpu, mem, refusal)),
+        Ok(()) => Ok(false),
+        Err(refusal) => gone(refuse(rules, cpu, mem, refusal), worked),
     }
 }
 

@@ -16,7 +16,7 @@ use board::Script;
 use frame_pool::Pool;
 use host_cpl3::Host;
 use image_check::Checked;
-use machine_step::{first_state, put_seen};
+use machine_step::{Worked, first_state, put_seen};
 use pv_io::{Failed, Sink};
 use run_trace::{Notes, Pause};
 use shadow_cache::Reloads;
@@ -55,10 +55,12 @@ pub fn steps_to<S: Reloads + Drop, H: Host, O: Sink, L: Notes>(
     carry_laws();
     let text = Some(original(image));
     let mut state = first_state(&text);
+    let mut worked = Worked::at(&running.cpu);
+    let mut cut = false;
     while running.step < bound {
         running.board.begin(script, running.step);
         let runs = may_run(&running.cpu, &running.board, image);
-        if stretch(running, host, image, script, bound, runs) > 0 {
+        if stretch(running, host, image, script, bound, runs, &mut cut) > 0 {
             continue;
         }
         let before = running.step;
@@ -71,6 +73,7 @@ pub fn steps_to<S: Reloads + Drop, H: Host, O: Sink, L: Notes>(
             notes_wanted,
             runs,
             &mut state,
+            &mut worked,
         ) {
             Err(stop) => {
                 tell(notes, running.lost.before, before);

@@ -17,13 +17,13 @@ use host_cpl3::Host;
 use ia32_types::Stop;
 use image_check::Checked;
 use machine_model::steps_keep_able;
-use machine_step::Seen;
+use machine_step::{Seen, Worked};
 use shadow_cache::Reloads;
 use step_mem::{StepState, Text};
 use wedge_step::{Lost, Running, are_bytes, known_laws, step_alone};
 
 /// One step, whose events were given. Whether all translations were dropped before it or after it is noted. It runs where
-/// the host may do it. The text is the image's, and the step's state takes the place of an earlier one's.
+/// the host may do it. The text is the image's, and the step's state and outcome take the places of an earlier one's.
 pub fn one_step<'t, S: Reloads + Drop, H: Host>(
     running: &mut Running<S>,
     pool: &mut Pool,
@@ -33,6 +33,7 @@ pub fn one_step<'t, S: Reloads + Drop, H: Host>(
     notes_wanted: bool,
     runs: bool,
     state: &mut StepState<'t>,
+    worked: &mut Worked,
 ) -> Result<Seen, Stop>
     requires runs { runs ≡ may_run running.old.cpu running.old.board image.now }
     requires text { IsOriginal image.now text.now }
@@ -65,7 +66,16 @@ pub fn one_step<'t, S: Reloads + Drop, H: Host>(
             state,
         );
     }
-    on_host(running, pool, host, image, text, notes_wanted, state)
+    on_host(
+        running,
+        pool,
+        host,
+        image,
+        text,
+        notes_wanted,
+        state,
+        worked,
+    )
 }
 
 /// One step whose instruction the host may do, and before which nothing is lost.
@@ -77,6 +87,7 @@ fn on_host<'t, S: Reloads + Drop, H: Host>(
     text: &'t Option<Text<'t>>,
     notes_wanted: bool,
     state: &mut StepState<'t>,
+    worked: &mut Worked,
 ) -> Result<Seen, Stop>
     requires text { IsOriginal image.now text.now }
     requires started { H.is_started host.old ≡ true }
@@ -103,6 +114,7 @@ fn on_host<'t, S: Reloads + Drop, H: Host>(
         text,
         notes_wanted,
         state,
+        worked,
     ) {
         Err(stop) => Err(stop),
         Ok(Attempt::Stepped(seen)) => Ok(seen),

@@ -99,7 +99,8 @@ pub fn run_on<S: Shadows + Drop, H: Host>(running: &mut Running<S>, host: &mut H
 }
 
 /// A stretch up to the bound, the next edge or the next event: of so many instructions the host does as many as it can one
-/// after the other, and none where the next one doesn't run there. The events of this step were given.
+/// after the other, and none where the next one doesn't run there. The events of this step were given. Where the host
+/// ended a stretch short of that it isn't asked once more at the next instruction, before which it would end again.
 pub fn stretch<S: Shadows + Drop, H: Host>(
     running: &mut Running<S>,
     host: &mut H,
@@ -107,6 +108,7 @@ pub fn stretch<S: Shadows + Drop, H: Host>(
     script: &Script,
     bound: u64,
     runs: bool,
+    cut: &mut bool,
 ) -> u64
     requires runs { runs ≡ may_run running.old.cpu running.old.board image.now }
     requires started { H.is_started host.old ≡ true }
@@ -119,19 +121,35 @@ pub fn stretch<S: Shadows + Drop, H: Host>(
         (H.bytes host.old) (H.bytes host.new) result (counts_of H.Host host.old) (counts_of H.Host host.new) }
     ensures leaves { StretchLeaves S.Shadows image.now running.old running.new (H.bytes host.old) (H.bytes host.new) }
     ensures counts { StretchCounts bound running.old.step running.new.step result (counts_of H.Host host.old) (counts_of H.Host host.new) }
-    ensures ran { running.old.cpu.held ≡ false → may_run running.old.cpu running.old.board image.now ≡ true
+    ensures ran { cut.old ≡ false → running.old.cpu.held ≡ false → may_run running.old.cpu running.old.board image.now ≡ true
         → RanOn (view_by (S.directory running.old.shadows) running.old.cpu) script.now.list (bound - running.old.step)
         (standing running.old.cpu.regs (H.bytes host.old) (H.retired host.old) (H.passed host.old)) running.old result running.new
-        (hosted H.Host host.new) }
+        (hosted H.Host host.new) cut.new }
+    // It is the next stretch alone that the host isn't asked for.
+    ensures once { cut.old ≡ true → cut.new ≡ false }
+    ensures cut { cut.new ≡ true → 0 < result }
     ensures started { H.is_started host.new ≡ true }
 {
+    if *cut {
+        *cut = false;
+        return 0;
+    }
     if running.cpu.held || !runs {
         return 0;
     }
     views_lend();
     advances();
     let k = steps_until_next(&running.board, script, running.step, bound - running.step);
-    run_on(running, host, k)
+    let done = run_on(running, host, k);
+    *cut = is_cut(done, k);
+    done
+}
+
+/// Of so many instructions the host did some, and not all.
+fn is_cut(done: u64, asked: u64) -> bool
+    ensures { result ≡ true → (0 < done) × (done < asked) }
+{
+    0 < done && done < asked
 }
 
 /// How many steps, up to a number, pass before an edge or an event can come. The events of this step were given.

@@ -6,7 +6,7 @@ use Rattle.machine_step.specs.Roots.{RootsAs}
 use Rattle.machine_step.specs.Worked.{IsDropped}
 use Rattle.machine_step.specs.declared.worked.Worked.{Worked}
 use Rattle.wedge_core.specs.Prepared.{PreparesAs}
-use Rattle.wedge_core.proofs.Trying.{if_gone, of_gone, prepares_refused}
+use Rattle.wedge_core.proofs.Trying.{by_tried, if_gone, of_gone, prepares_refused}
 use Rattle.wedge_core.proofs.native.prepare.Goals as goal
 
 pub returns-in-Ok : goal.returns-in-Ok
@@ -25,9 +25,10 @@ returns-in-Err g c =
     let after = g.M.GuestMem.space c.refuse.new.mem in
     let is = sym c.gone.ensures in
     record {
-      uses = subst (λ (r : Result (Option Worked) Stop). IfOk r (λ _. Uses (c.args.cpu.now.cpl == 3) before after)) is
+      uses = by_tried (Uses (c.args.cpu.now.cpl == 3) before after) c.gone.result c.gone.new.worked
+          (subst (λ (r : Result (Option Worked) Stop). IfOk r (λ _. Uses (c.args.cpu.now.cpl == 3) before after)) is
           (if_gone (Uses (c.args.cpu.now.cpl == 3) before after) c.refuse.result
-          (c.refuse.ensures.goes_on before c.in-Err.ensures.refused));
+          (c.refuse.ensures.goes_on before c.in-Err.ensures.refused)));
       prepares = λ m b k. let here = record b { cpu = c.args.cpu.now } in
           subst (λ (r : Result (Option Worked) Stop). PreparesAs m here c.args.insn.now c.args.len before r after) is
           (prepares_refused m here c.args.insn.now c.args.len before c.requires.able c.requires.native c.requires.spelled c.in-Err.refusal

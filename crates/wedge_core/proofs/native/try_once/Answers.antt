@@ -47,8 +47,12 @@ use Rattle.wedge_step.proofs.Shedding.{open_shed, same_shed, ready_open}
 use Rattle.wedge_step.proofs.Stays.{kept_same}
 use Rattle.wedge_step.proofs.StepReady.{Steps, went_ready, followed_ready}
 use Rattle.wedge_core.proofs.PreparedFollows.{prepared_follows}
+use Rattle.machine_step.specs.Roots.{RootsAs}
+use Rattle.machine_step.specs.Worked.{IsDropped}
 use Rattle.wedge_core.proofs.Tried.{Begun, Tried, tried_from}
+use Rattle.wedge_core.proofs.Trying.{asks_tries, of_went, went_tries}
 use Rattle.wedge_core.proofs.native.try_once.Given.{Over}
+use Rattle.wedge_core.proofs.native.try_once.Goals.{After-finish_step}
 use Rattle.wedge_core.proofs.native.try_once.Goals as goal
 
 module _ (g : Over) where
@@ -138,7 +142,7 @@ returns-in-Err-clause-tries g c = record {
 
 -- ---- it went
 
-module _ (g : Over) (c : goal.After-worked-in-Ok-Some-1 g) where
+module _ (g : Over) (c : goal.After-finish_step-arg-then-went-2-1 g) where
   gone : Tried g.S.Shadows c.args.image.now c.args.running.now c.args.pool.now c.args.ram.now c.try_native.new.ram c.begin_over.new.state
       c.try_native.new.state
   gone =
@@ -152,7 +156,7 @@ module _ (g : Over) (c : goal.After-worked-in-Ok-Some-1 g) where
       c.are_bytes.ensures.length c.requires.runs
       c.eip_fits.ensures
 
-module _ (g : Over) (c : goal.After-finish_step g) where
+module _ (g : Over) (c : After-finish_step g) where
   abbrev image : Image
   image = c.args.image.now
 
@@ -169,13 +173,14 @@ module _ (g : Over) (c : goal.After-finish_step g) where
   state1 = c.try_native.new.state
 
   went : (script : Events) → stepped (wedge image script running.frames) (state_at g image script running ram0) ≡ went_as
-      (state_at g image script running ram0) c.in-Ok-Some.worked c.try_native.new.board (space g running ram1 state1)
+      (state_at g image script running ram0) c.try_native.new.worked c.try_native.new.board (space g running ram1 state1)
   went script =
       let m = wedge image script running.frames in
       let b = state_at g image script running ram0 in
       let k = (gone g c.before).begun script in
       let sees = c.native_laws.ensures.sees (g.S.Shadows.directory running.shadows) running.cpu c.requires.able in
-      let tries = rw c.in-Ok-Some.field-0-is at (c.in-Ok-Some.ensures.tries m (unheld b) (record { has = refl; over = refl })) in
+      let tries = went_tries m (unheld b) (space g running ram0 c.begin_over.new.state) _ c.try_native.new.worked c.try_native.new.board
+      (space g running ram1 state1) c.if-went.true (c.in-Ok.ensures.tries m (unheld b) (record { has = refl; over = refl })) in
       step_is m b sees.level k.next ∙ (ap (fetches_next m (unheld b)) (sym k.start) ∙ tries.0)
 
   ready2 : IsReady g.S.Shadows (ground image running.frames) c.finish_step.new.running.cpu c.finish_step.new.running.shadows
@@ -187,37 +192,39 @@ module _ (g : Over) (c : goal.After-finish_step g) where
       let k = gone g c.before in
       let behind1 = went_ready g.S.Shadows image running.frames (state_at g image [] running ram0) running.shadows ram0 ram1
       (steps_from g image running c.args.pool.now ram0 ram1 c.begin_over.new.state state1 c.requires.held k) c.requires.ready
-      c.native_laws.ensures.steps c.in-Ok-Some.worked c.try_native.new.board (space g running ram1 state1) state1.changes (went [])
+      c.native_laws.ensures.steps c.try_native.new.worked c.try_native.new.board (space g running ram1 state1) state1.changes (went [])
       (k.ram1_is []) refl in
       c.finish_step.ensures.ready (ground image running.frames) (sym k.frames1) c.text_frames-count.ensures k.open1 behind1
 
-pub returns-in-Ok-Some-clause-accounts : goal.returns-in-Ok-Some-clause-accounts
-returns-in-Ok-Some-clause-accounts g c = record {
+pub returns-then-went-clause-accounts : goal.returns-then-went-clause-accounts
+returns-then-went-clause-accounts g c = record {
   stands = c.finish_step.ensures.moved.stands;
   counted = c.finish_step.ensures.counts.counted;
   pool = keeps_then g.S.Shadows c.args.image.now c.args.running.now c.finish_step.new.running c.args.pool.now c.finish_step.new.pool
-      c.args.ram.now c.try_native.new.ram c.finish_step.new.ram c.requires.held (gone g c.before).a c.finish_step.ensures.moved.moves;
+      c.args.ram.now c.try_native.new.ram c.finish_step.new.ram c.requires.held (gone g c.before.before).a
+      c.finish_step.ensures.moved.moves;
   filled = fills_join _ _ _ _ _ _ (filled_from g c.args.image.now c.args.running.now c.args.pool.now c.args.ram.now c.try_native.new.ram
-      c.begin_over.new.state c.try_native.new.state (gone g c.before)) c.finish_step.ensures.counts.filled;
+      c.begin_over.new.state c.try_native.new.state (gone g c.before.before)) c.finish_step.ensures.counts.filled;
   frames = c.finish_step.ensures.passes.frames;
 }
 
-pub returns-in-Ok-Some-clause-tries : goal.returns-in-Ok-Some-clause-tries
-returns-in-Ok-Some-clause-tries g c = record {
+pub returns-then-went-clause-tries : goal.returns-then-went-clause-tries
+returns-then-went-clause-tries g c = record {
   step = λ script.
       let running = c.args.running.now in
       let image = c.args.image.now in
       let n = running.frames in
       let m = wedge image script n in
       let b = state_at g image script running c.args.ram.now in
-      let k = gone g c.before in
+      let k = gone g c.before.before in
       let e = k.begun script in
       let held = c.requires.held in
       let s1 = space g running c.try_native.new.ram c.try_native.new.state in
       let host0 : IsHost m c.args.ram.now = record { room = held.host.room; text = held.host.text } in
       let users = others_users m e.wedge_is c.args.ram.now host0 b refl e.room e.bytes e.sound c.eip_fits.ensures
       (c.native_laws.ensures.text image held.wedge.accepted) e.next c.requires.able in
-      let tries = rw c.in-Ok-Some.field-0-is at (c.in-Ok-Some.ensures.tries m (unheld b) (record { has = refl; over = refl })) in
+      let tries = went_tries m (unheld b) (space g running c.args.ram.now c.begin_over.new.state) _ c.try_native.new.worked
+      c.try_native.new.board s1 c.if-went.true (c.in-Ok.ensures.tries m (unheld b) (record { has = refl; over = refl })) in
       let none = tries.1 (subst (OthersAreUsers (unheld b)) (sym e.start) users) image.sites in
       let front = front_same n c.args.pool.now c.finish_step.new.pool c.try_native.new.ram c.finish_step.new.ram
       (g.S.Shadows.frames running.shadows c.try_native.new.ram) (g.S.Shadows.frames c.finish_step.new.running.shadows c.finish_step.new.ram)
@@ -225,37 +232,37 @@ returns-in-Ok-Some-clause-tries g c = record {
       let ram_is : shown m c.finish_step.new.ram ≡ s1.ram =
       shown_same m c.try_native.new.ram c.finish_step.new.ram front ∙ sym (k.ram1_is script) in
       let new = state_of g.S.Shadows m c.finish_step.new.running c.finish_step.new.ram in
-      let whole = dropping c.in-Ok-Some.worked.dropped s1.set in
+      let whole = dropping c.try_native.new.worked.dropped s1.set in
       let left = is_left m new whole c.finish_step.new.running.lost c.finish_step.ensures.left
       (λ back. all_loosened (ground image n) c.finish_step.new.running.cpu (shown (ground image n) c.finish_step.new.ram)
       c.finish_step.new.running.cpu.cr3 (g.S.Shadows.read_from c.finish_step.new.running.shadows)
       (g.S.Shadows.slots c.finish_step.new.running.shadows c.finish_step.new.ram)
-      ((ready2 g c).1 back) m (with_set new whole) refl (any_script image script n c.finish_step.new.ram) refl refl) in
-      idle m b c.finish_step.new.running.lost c.in-Ok-Some.worked c.try_native.new.board s1 new (went g c script)
+      ((ready2 g c.before).1 back) m (with_set new whole) refl (any_script image script n c.finish_step.new.ram) refl refl) in
+      idle m b c.finish_step.new.running.lost c.try_native.new.worked c.try_native.new.board s1 new (went g c.before script)
       c.finish_step.ensures.passes.cpu ram_is c.finish_step.ensures.passes.board c.finish_step.ensures.passes.step left none;
   before = c.finish_step.ensures.passes.before;
   carried = λ script steps t unwanted free roomy taken by kept carried.
       let running = c.args.running.now in
       let image = c.args.image.now in
-      let k = gone g c.before in
+      let k = gone g c.before.before in
       let state1 = c.try_native.new.state in
       let last = space g running c.try_native.new.ram state1 in
       let sound = c.try_native.ensures.sound in
       let pages = sound.visits in
       let most = sound.few in
-      let r = rw c.in-Ok-Some.field-0-is at c.in-Ok-Some.ensures.roots in
-      let bytes = c.are_bytes-in-Ok-Some.ensures in
+      let r = of_went (RootsAs (record running.cpu { held = false })) _ c.try_native.new.worked c.if-went.true c.in-Ok.ensures.roots in
+      let bytes = c.are_bytes-then-went.ensures in
       let ram_is : last.ram ≡ shown (ground image running.frames) c.try_native.new.ram =
       k.ram1_is script ∙ any_script image script running.frames c.try_native.new.ram in
       let long = bytes.length in
       let same = ap length ram_is in
       went_on g.S.Shadows (widens g) c.known_laws.ensures image script running c.args.pool.now c.args.ram.now c.try_native.new.ram
       c.requires.held k.a steps t kept free roomy taken by carried last state1.changes refl sound.told c.finish_step.new.running.shadows
-      c.finish_step.new.ram c.finish_step.ensures.has_tables_under c.in-Ok-Some.worked c.try_native.new.board (went g c script)
+      c.finish_step.new.ram c.finish_step.ensures.has_tables_under c.try_native.new.worked c.try_native.new.board (went g c.before script)
       (record { through = r.through; load = r.load; all = r.all; page_size = r.page_size }) c.requires.ready (omega (arith, long, same))
       (subst AreBytes (sym ram_is) bytes.bytes) (space g running c.args.ram.now c.begin_over.new.state) c.text_frames-count.result
       state1.control.frames
-      c.text_frames-count.ensures c.in-Ok-Some.ensures.uses (ap (λ (x : Space). x.visited) c.begin_over.ensures.space)
+      c.text_frames-count.ensures c.in-Ok.ensures.uses (ap (λ (x : Space). x.visited) c.begin_over.ensures.space)
       (ap (λ (x : Space). x.mode) c.begin_over.ensures.space) sound.within (omega (arith, pages, most))
       (c.finish_step.ensures.ends unwanted);
   carried_asked = tt;
@@ -265,18 +272,18 @@ returns-in-Ok-Some-clause-tries g c = record {
         let image = c.args.image.now in
         let n = running.frames in
         let m = ground image n in
-        let k = gone g c.before in
+        let k = gone g c.before.before in
         let others0 = g.S.Shadows.other_roots running.shadows c.args.ram.now in
         let others1 = g.S.Shadows.other_roots running.shadows c.try_native.new.ram in
         let opens1 = subst (λ (x : Bool). AllOpen image x others1) (sym k.wp1)
         (open_shed image (wp_of running.cpu) others0 others1 (same_shed _ _ k.others1)
         (ready_open m running.cpu (shown m c.args.ram.now) others0 c.requires.ready.others)) in
         let slots2 = g.S.Shadows.slots c.finish_step.new.running.shadows c.finish_step.new.ram in
-        let within2 = within_left n slots2 c.in-Ok-Some.worked.dropped c.finish_step.new.running.lost
+        let within2 = within_left n slots2 c.try_native.new.worked.dropped c.finish_step.new.running.lost
         (changed (entries_of (g.S.Shadows.slots running.shadows c.try_native.new.ram)) c.try_native.new.state.changes)
         c.finish_step.ensures.left k.within1
         (λ back. all_within m c.finish_step.new.running.cpu (shown m c.finish_step.new.ram) c.finish_step.new.running.cpu.cr3
-        (g.S.Shadows.read_from c.finish_step.new.running.shadows) slots2 ((ready2 g c).1 back)) in
+        (g.S.Shadows.read_from c.finish_step.new.running.shadows) slots2 ((ready2 g c.before).1 back)) in
         let open2 = c.finish_step.ensures.shows image c.text_frames-count.ensures k.open1 opens1 in
         let fills = c.finish_step.ensures.counts.fills in
         let count = c.finish_step.ensures.passes.step in
@@ -286,7 +293,7 @@ returns-in-Ok-Some-clause-tries g c = record {
         c.finish_step.ensures.moved.stands c.finish_step.ensures.moved.owns c.finish_step.ensures.counts.counted
         (omega (arith, fills, count)) c.finish_step.ensures.passes.frames within2
         (subst (λ (x : Cpu). AreOpen image (wp_of x) slots2) (sym c.finish_step.ensures.passes.cpu) open2);
-    ready = (ready2 g c).0;
+    ready = (ready2 g c.before).0;
     reloaded = c.finish_step.ensures.notes_wanted;
     count = c.finish_step.ensures.passes.step;
     asked = tt;
@@ -342,7 +349,8 @@ module _ (g : Over) (c : goal.After-fill_used g) where
     e = (asked g c.before).begun script
 
     prepared : (c.try_native.new.board ≡ r.board) × IsPrepared (unheld b) (space g r c.args.ram.now c.begin_over.new.state) last
-    prepared = rw c.in-Ok-None.field-0-is at (c.in-Ok-None.ensures.tries m (unheld b) (record { has = refl; over = refl }))
+    prepared = asks_tries m (unheld b) (space g r c.args.ram.now c.begin_over.new.state) _ c.try_native.new.worked
+        c.try_native.new.board last c.if-went.false (c.in-Ok.ensures.tries m (unheld b) (record { has = refl; over = refl }))
 
     p : IsPrepared (unheld b) (space_at_start m.mode m.frames b.cpu b.ram b.set) last
     p = subst (λ (s : Space). IsPrepared (unheld b) s last) e.start prepared.1
@@ -361,8 +369,8 @@ module _ (g : Over) (c : goal.After-fill_used g) where
         (length (free_list c.args.pool.now c.try_native.new.ram))
         c.try_native.new.state.changes c.try_native.ensures.sound.told c.text_frames.ensures k.within1 (omega (arith, free, room))
 
-pub returns-in-Ok-None-clause-accounts : goal.returns-in-Ok-None-clause-accounts
-returns-in-Ok-None-clause-accounts g c = record {
+pub returns-else-went-clause-accounts : goal.returns-else-went-clause-accounts
+returns-else-went-clause-accounts g c = record {
   stands = c.fill_used.ensures.moved.stands;
   counted = c.fill_used.ensures.counts.counted;
   pool = keeps_then g.S.Shadows c.args.image.now c.args.running.now c.fill_used.new.running c.args.pool.now c.fill_used.new.pool
@@ -372,8 +380,8 @@ returns-in-Ok-None-clause-accounts g c = record {
   frames = ap (λ (x : Running g.row.S.Denot). x.frames) c.fill_used.ensures.same.same;
 }
 
-pub returns-in-Ok-None-clause-tries : goal.returns-in-Ok-None-clause-tries
-returns-in-Ok-None-clause-tries g c = record {
+pub returns-else-went-clause-tries : goal.returns-else-went-clause-tries
+returns-else-went-clause-tries g c = record {
   step = λ script.
       let running = c.args.running.now in
       let image = c.args.image.now in
@@ -538,7 +546,10 @@ finish_step-requires-clause-counts g c = record {
 
 pub finish_step-requires-clause-worked : goal.finish_step-requires-clause-worked
 finish_step-requires-clause-worked g c =
-    record { page = rw c.in-Ok-Some.field-0-is at c.in-Ok-Some.ensures.dropped; rules = (gone g c).wp1 }
+    record {
+      page = of_went (λ w. IsDropped w.dropped) _ c.try_native.new.worked c.if-went.true c.in-Ok.ensures.dropped;
+      rules = (gone g c).wp1;
+    }
 
 pub fill_used-requires-clause-under : goal.fill_used-requires-clause-under
 fill_used-requires-clause-under g c = record { sound = c.try_native.ensures.sound; counted = (asked g c).counted1; few = (asked g c).few1 }

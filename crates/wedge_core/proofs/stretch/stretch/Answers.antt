@@ -1,4 +1,4 @@
-use Rattle.std.proofs.Common.{◌≡◌, ℕ, ◌+◌, ◌==◌, true, refl, sym, subst, arith}
+use Rattle.std.proofs.Common.{◌≡◌, ℕ, ◌+◌, ◌==◌, true, false, refl, sym, subst, ◌∙◌, arith}
 use Rattle.host_cpl3.specs.Hosts.{standing}
 use Rattle.guest_ram.specs.Among.{is_among}
 use Rattle.wedge_step.specs.Filled.{CountsFills, pages_kept}
@@ -34,14 +34,14 @@ returns g c =
     let retired = g.H.Host.retired c.args.host.now in
     let passed = g.H.Host.passed c.args.host.now in
     let script = c.args.script.now.list in
-    let now = c.run_on.new.running in
-    let new = c.run_on.new.host in
+    let now = c.run_on-done.new.running in
+    let new = c.run_on-done.new.host in
     let memory_then = g.H.Host.bytes new in
     let retired_then = g.H.Host.retired new in
     let passed_then = g.H.Host.passed new in
     let k = c.steps_until_next-k.result in
-    let done = c.run_on.result in
-    let ran = c.run_on.ensures.ran in
+    let done = c.run_on-done.result in
+    let ran = c.run_on-done.ensures.ran in
     let views = c.views_lend.ensures in
     let view = view_by (g.S.Shadows.directory old.shadows) old.cpu in
     let start = standing old.cpu.regs memory retired passed in
@@ -119,13 +119,39 @@ returns g c =
             c.advances.ensures c.requires.able may c.if-running.false retired passed k done now memory_then retired_then passed_then ran
             script quiet;
       };
-      ran = λ _ _. record {
+      ran = λ _ _ _. record {
         asked = k;
         most = most;
         furthest = c.steps_until_next-k.ensures.furthest;
         ran = ran;
+        short = λ cut. (c.is_cut.ensures cut).1;
       };
-      started = c.run_on.ensures.started;
+      once = λ cut. absurd (let f : true ≡ false = sym cut ∙ c.if-cut.false in cc);
+      cut = λ cut. (c.is_cut.ensures cut).0;
+      started = c.run_on-done.ensures.started;
+    }
+
+pub returns-then-cut : goal.returns-then-cut
+returns-then-cut g c =
+    let old = c.args.running.now in
+    let memory = g.H.Host.bytes c.args.host.now in
+    record {
+      goes = record { passes = λ some. absurd (omega (arith, some)); stays = λ none. refl };
+      leaves = record {
+        held = λ pool h. h;
+        pool = λ pool h. keeps_same pool memory (g.S.Shadows.frames old.shadows memory);
+        filled = fills_same _ _ old.fills refl;
+        ready = λ ready. ready;
+        kept = refl;
+        apart = record { size = refl; frames = λ frame e. refl };
+        able = c.requires.able;
+        frames = refl;
+      };
+      counts = record { count = omega arith; most = c.requires.bound.0; retired = omega arith; passed = λ none. refl };
+      ran = λ cut. absurd (let f : true ≡ false = sym c.if-cut.true ∙ cut in cc);
+      once = λ _. refl;
+      cut = λ cut. absurd (let f : false ≡ true = cut in cc);
+      started = c.requires.started;
     }
 
 pub returns-then-running-clause-goes : goal.returns-then-running-clause-goes
@@ -150,8 +176,8 @@ pub returns-then-running-clause-counts : goal.returns-then-running-clause-counts
 returns-then-running-clause-counts g c =
     record { count = omega arith; most = c.requires.bound.0; retired = omega arith; passed = λ none. refl }
 
-pub run_on-requires-clause-bound : goal.run_on-requires-clause-bound
-run_on-requires-clause-bound g c =
+pub run_on-done-requires-clause-bound : goal.run_on-done-requires-clause-bound
+run_on-done-requires-clause-bound g c =
     let low = c.requires.bound.0 in
     let high = c.requires.bound.1 in
     let most = c.steps_until_next-k.ensures.most in
