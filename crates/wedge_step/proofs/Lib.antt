@@ -28,3 +28,4 @@ mod Leaving
 pub mod Widening
 mod Texts
 pub mod FrameCounts
+mod AtRest

@@ -17,3 +17,4 @@ pub mod Alone
 pub mod Leaves
 pub mod Ending
 pub mod Original
+pub mod AtRest

@@ -9,6 +9,7 @@ mod close;
 mod looking;
 mod opened;
 mod running;
+mod settled;
 mod sight;
 mod single;
 

@@ -25,6 +25,7 @@ use crate::beginning::begin_over;
 use crate::carrying::known_laws;
 use crate::close::{drop_and_switch, settle_or_drop};
 use crate::running::Running;
+use crate::settled::is_settled;
 use crate::sight::are_bytes;
 use board::Board;
 use descriptors::Cpu;
@@ -108,7 +109,49 @@ pub fn step_alone<'t, S: Reloads + Drop>(
 
 /// What a step left of its translations is kept, where so many frames hold the text; or nothing, where a view of its level
 /// may not show one of its pages, or frames lack for them. Which of both is noted, and the pages that were filled are counted.
+/// Mostly there is nothing to settle.
+#[inline(always)]
 pub fn fill_used<S: Shadows + Drop>(
+    running: &mut Running<S>,
+    pool: &mut Pool,
+    ram: &mut Ram,
+    state: &StepState,
+    count: u32,
+)
+    requires under { IsUnderWay S.Shadows (scene running.old pool.old ram.old) state.now }
+    requires fills { running.old.fills ≤ 2 ^ 48 }
+    ensures moved { Moved S.Shadows (stand running.old.shadows pool.old ram.old) (stand running.new.shadows pool.new ram.new) }
+    ensures left { set_in S.Shadows (stand running.new.shadows pool.new ram.new)
+        ≡ left_of running.new.lost.after (set_behind S.Shadows (stand running.old.shadows pool.old ram.old) state.now) }
+    ensures shows { (image : Image) → count ≡ text_pages image
+        → AreOpen image state.now.control.wp (S.slots running.old.shadows ram.old)
+        → AreOpen image state.now.control.wp (S.slots running.new.shadows ram.new) }
+    ensures whole { MayCloseIn S.Shadows count (side_of (running.old.cpu.cpl == 3)) (stand running.old.shadows pool.old ram.old) state.now
+        → (running.new.lost.after ≡ false)
+        × ClosesIn S.Shadows (side_of (running.old.cpu.cpl == 3)) (stand running.old.shadows pool.old ram.old)
+        (stand running.new.shadows pool.new ram.new) state.now }
+    ensures ready { (out : ℕ → Bool) (m : Setting) (cpu : Cpu) → m.frames ≡ state.now.control.frames
+        → IsReadyBehindIn S.Shadows out m cpu (stand running.old.shadows pool.old ram.old) state.now
+        → IsReadyButIn S.Shadows out m cpu (stand running.new.shadows pool.new ram.new) }
+    ensures opens { (image : Image) (wp : Bool)
+        → AllOpen image wp (S.other_roots running.old.shadows ram.old) → AllOpen image wp (S.other_roots running.new.shadows ram.new) }
+    ensures told { IsToldOf state.now.tables state.now.wrote running.new.lost.after
+        (sight S.Shadows running.old.shadows ram.old) (sight S.Shadows running.new.shadows ram.new) }
+    ensures has_tables_under { OpensFor S.Shadows (pages_through state.now)
+        (stand running.old.shadows pool.old ram.old) (stand running.new.shadows pool.new ram.new) }
+    ensures counts { KeepsCount S.Shadows (scene running.old pool.old ram.old) (scene running.new pool.new ram.new) state.now }
+    ensures same { KeepsRest running.old running.new }
+{
+    if is_settled(&running.shadows, ram, state, side_of(running.cpu.cpl)) {
+        running.lost.after = false;
+        return;
+    }
+    settle_used(running, pool, ram, state, count);
+}
+
+/// The same where there may be something to settle.
+#[inline(never)]
+fn settle_used<S: Shadows + Drop>(
     running: &mut Running<S>,
     pool: &mut Pool,
     ram: &mut Ram,

@@ -1,105 +1,74 @@
-use Rattle.std.proofs.Common.{◌≡◌, true, false, refl, ap, subst, arith}
-use Rattle.std.proofs.lemmas.Bool.{both_ways}
+use Rattle.std.proofs.Common.{◌==◌, refl, sym, ap, subst, arith}
+use Rattle.frame_pool.proofs.Held.{Moves-refl}
+use Rattle.shadow_tables.specs.Entries.{entries_of}
+use Rattle.shadow_tables.specs.Sight.{sight}
 use Rattle.shadow_tables.specs.declared.words.Side.{Side}
+use Rattle.wedge_mem.specs.Owned.{first, owns}
+use Rattle.wedge_step.specs.AtRest.{IsAtRest}
 use Rattle.wedge_step.specs.Stand.{FillsIn, stand}
-use Rattle.wedge_step.proofs.FrameCounts.{all_fit, all_but}
-use Rattle.wedge_step.proofs.Filling.{fills_fewer, held_by}
+use Rattle.wedge_step.specs.Standing.{side_of}
+use Rattle.wedge_step.proofs.AtRest.{all_closes, none_filled, none_told, rest_settled}
+use Rattle.wedge_step.proofs.Filling.{fills_same}
+use Rattle.wedge_step.proofs.Resettling.{closed_ready}
+use Rattle.wedge_step.proofs.single.fill_used.Given.{Over}
 use Rattle.wedge_step.proofs.single.fill_used.Goals as goal
 
-pub returns-in-None-clause-ready : goal.returns-in-None-clause-ready
-returns-in-None-clause-ready g c = λ out m cpu frames h. c.settle_or_drop-settled.ensures.ready out m cpu frames h
+pub is_settled-requires : goal.is_settled-requires
+is_settled-requires g c = record { stands = first c.requires.under.sound.stands_now }
 
-pub returns-in-Some-clause-ready : goal.returns-in-Some-clause-ready
-returns-in-Some-clause-ready g c = λ out m cpu frames h. c.settle_or_drop-settled.ensures.ready out m cpu frames h
-
-pub returns-in-None-clause-has_tables_under : goal.returns-in-None-clause-has_tables_under
-returns-in-None-clause-has_tables_under g c = λ indices all o. c.settle_or_drop-settled.ensures.has_tables_under indices all o
-
-pub returns-in-Some-clause-has_tables_under : goal.returns-in-Some-clause-has_tables_under
-returns-in-Some-clause-has_tables_under g c = λ indices all o. c.settle_or_drop-settled.ensures.has_tables_under indices all o
-
-pub returns-in-None-clause-whole : goal.returns-in-None-clause-whole
-returns-in-None-clause-whole g c = λ may.
-    let whole = rw c.side_of-side.ensures at c.settle_or_drop-settled.ensures.whole in
-    absurd (both_ways (Rattle.std.specs.Prelude.is_none c.settle_or_drop-settled.result) (whole may).0
-    (ap Rattle.std.specs.Prelude.is_none c.in-None.is))
-
-pub returns-in-Some-clause-whole : goal.returns-in-Some-clause-whole
-returns-in-Some-clause-whole g c = λ may.
-    let whole = rw c.side_of-side.ensures at c.settle_or_drop-settled.ensures.whole in
-    (refl, (whole may).1)
-
-pub returns-in-None-clause-shows : goal.returns-in-None-clause-shows
-returns-in-None-clause-shows g c = c.settle_or_drop-settled.ensures.shows
-
-pub returns-in-None-clause-opens : goal.returns-in-None-clause-opens
-returns-in-None-clause-opens g c = c.settle_or_drop-settled.ensures.opens
-
-pub returns-in-Some-clause-shows : goal.returns-in-Some-clause-shows
-returns-in-Some-clause-shows g c = c.settle_or_drop-settled.ensures.shows
-
-pub returns-in-Some-clause-opens : goal.returns-in-Some-clause-opens
-returns-in-Some-clause-opens g c = c.settle_or_drop-settled.ensures.opens
-
-pub settle_or_drop-settled-requires : goal.settle_or_drop-settled-requires
-settle_or_drop-settled-requires g c = record { sound = c.requires.under.sound }
-
-pub returns-in-None-clause-moved : goal.returns-in-None-clause-moved
-returns-in-None-clause-moved g c = c.settle_or_drop-settled.ensures.moved
-
-pub returns-in-None-clause-same : goal.returns-in-None-clause-same
-returns-in-None-clause-same g c = record { before = refl; reloaded = refl; same = refl }
-
-pub returns-in-Some-clause-moved : goal.returns-in-Some-clause-moved
-returns-in-Some-clause-moved g c = c.settle_or_drop-settled.ensures.moved
-
-pub returns-in-Some-clause-same : goal.returns-in-Some-clause-same
-returns-in-Some-clause-same g c = record { before = refl; reloaded = refl; same = refl }
-
-pub returns-in-None-clause-told : goal.returns-in-None-clause-told
-returns-in-None-clause-told g c =
-    record { same_cr3 = c.settle_or_drop-settled.ensures.cr3; tells = λ after. absurd (let f : true ≡ false = after in cc) }
-
-pub returns-in-Some-clause-told : goal.returns-in-Some-clause-told
-returns-in-Some-clause-told g c = record {
-  same_cr3 = c.settle_or_drop-settled.ensures.cr3;
-  tells = λ after. c.settle_or_drop-settled.ensures.told (ap Rattle.std.specs.Prelude.is_none c.in-Some.is);
-}
-
-pub returns-in-None-clause-counts : goal.returns-in-None-clause-counts
-returns-in-None-clause-counts g c = record {
-  counted = held_by _ _ _ _ _ _ _ (c.free.ensures.count c.args.ram.now) c.requires.under.counted
-      (c.free-2.ensures.count c.settle_or_drop-settled.new.ram) c.settle_or_drop-settled.ensures.moved.moves.lengths;
-  fills = omega arith;
-  exact = (0, omega arith, refl);
-  filled = let none =
-      c.settle_or_drop-settled.ensures.fewer (ap Rattle.std.specs.Prelude.is_none c.in-None.is) in fills_fewer _ _ _ (omega (arith, none));
-}
-
-pub returns-in-Some-clause-counts : goal.returns-in-Some-clause-counts
-returns-in-Some-clause-counts g c =
-    let e = c.in-Some.ensures.filled in
-    let few = e.few in
-    let more = e.filled in
+pub returns-then-is_settled : goal.returns-then-is_settled
+returns-then-is_settled g c =
+    let running = c.args.running.now in
+    let shadows = running.shadows in
+    let memory = c.args.ram.now in
+    let state = c.args.state.now in
+    let side = side_of (running.cpu.cpl == 3) in
+    let slots = g.S.Shadows.slots shadows memory in
+    let sound = c.requires.under.sound in
+    let rest : IsAtRest slots side state = subst (λ (s : Side). IsAtRest slots s state) c.side_of.ensures
+    (c.is_settled.ensures c.if-is_settled.true) in
     record {
-      counted = held_by _ _ _ _ _ _ _ (c.free.ensures.count c.args.ram.now) c.requires.under.counted
-          (c.free-2.ensures.count c.settle_or_drop-settled.new.ram) c.settle_or_drop-settled.ensures.moved.moves.lengths;
-      fills = omega (arith, few);
-      exact = (
-        c.in-Some.filled,
-        omega arith,
-        subst (λ (side : Side). FillsIn g.S.Shadows side (stand c.args.running.now.shadows c.args.pool.now c.args.ram.now) c.args.state.now
-            c.in-Some.filled) c.side_of-side.ensures e.exact,
+      moved = record {
+        stands = first sound.stands_now;
+        owns = owns sound.stands_now;
+        moves = Moves-refl _ _ _ (owns sound.stands_now).stands;
+      };
+      left = sym (ap (Rattle.step_mem.specs.Changes.changed (entries_of slots)) rest.unchanged);
+      shows = λ image is h. h;
+      whole = λ may. (
+        refl,
+        all_closes slots side state rest (g.S.Shadows.write_protected shadows)
+            (λ page slot small e. g.met.S.Shadows.barred shadows memory page slot (first sound.stands_now) small e),
       );
-      filled = record { rises = omega arith; enough = omega (arith, more) };
+      ready = λ out m cpu frames h. closed_ready g.S.Shadows out m cpu shadows shadows memory memory _ state.tables state.wrote
+          (Rattle.std.specs.Prelude.Some 0) (rest_settled slots side state rest g.S.Shadows shadows memory refl) refl h;
+      opens = λ image wp h. h;
+      told = record { same_cr3 = refl; tells = λ after. none_told slots side state rest (sight g.S.Shadows shadows memory) };
+      has_tables_under = λ indices all o. o;
+      counts = record {
+        counted = c.requires.under.counted;
+        fills = omega arith;
+        exact = (0, omega arith, none_filled slots side state rest);
+        filled = fills_same _ _ running.fills refl;
+      };
+      same = record { before = refl; reloaded = refl; same = refl };
     }
 
-pub overflow_add-all : goal.overflow_add-all
-overflow_add-all g c = let fit =
-    all_fit _ _ _ _ (c.free.ensures.count c.args.ram.now) c.requires.under.counted c.requires.under.few in omega (arith, fit)
+pub settle_used-requires : goal.settle_used-requires
+settle_used-requires g c = record { under = c.requires.under; fills = c.requires.fills }
 
-pub overflow_sub-running : goal.overflow_sub-running
-overflow_sub-running g c =
-    let low = all_but _ _ _ _ _ _ _ (c.free.ensures.count c.args.ram.now) c.requires.under.counted
-    (c.free-2.ensures.count c.settle_or_drop-settled.new.ram) c.settle_or_drop-settled.ensures.moved.moves.lengths in
-    omega (arith, low)
+pub returns : goal.returns
+returns g c =
+    let e = c.settle_used.ensures in
+    record {
+      moved = e.moved;
+      left = e.left;
+      shows = e.shows;
+      whole = e.whole;
+      ready = λ out m cpu frames h. e.ready out m cpu frames h;
+      opens = λ image wp h. e.opens image wp h;
+      told = e.told;
+      has_tables_under = λ indices all o. e.has_tables_under indices all o;
+      counts = e.counts;
+      same = e.same;
+    }
