@@ -70,7 +70,8 @@ module _ (slots : ℕ → Option Slot) (side : Side) (state : StepState) (rest :
 
   gone_through : (page : ℕ) → is_among page (pages_of state.visited state.changes) ≡ true → is_among page state.visited ≡ true
   gone_through page there =
-      sym (ap (is_among page) (ap (λ (cs : List Change). state.visited ++ map page_of cs) rest.unchanged ∙ append-nil state.visited)) ∙ there
+      sym (ap (is_among page) (ap (λ (cs : List Change). state.visited ++ map page_of cs) rest.unchanged ∙ append-nil state.visited))
+      ∙ there
 
   pub all_closes : (write_protected : List ℕ)
       → ((page : ℕ) (slot : Slot) → page < 2 ^ 20 → slots page ≡ Some slot → is_among slot.entry.frame write_protected ≡ true
