@@ -13,7 +13,7 @@ pub use laws::{
     done_by_registers, in_pieces, lengths, one_meaning, operands_fit, prefix_free, same_table,
     shapes, site_kinds,
 };
-pub use meaning::instruction;
+pub use meaning::{instruction, put_instruction};
 pub use row::{
     Addressing, Base, Form, Immediate, Lead, Located, Miss, Modrm, Operands, Parts, Plus,
     RefusedRow, RmForm, Row, Slash,
