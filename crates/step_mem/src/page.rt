@@ -44,6 +44,7 @@ pub fn look<B: Translations>(ram: &Ram, base: &B, changes: &[Change], page: u32)
 }
 
 /// The page's entry leaves the set, and a fresh walk decides.
+#[inline(never)]
 fn settle<B: Translations>(
     ram: &mut Ram,
     base: &B,

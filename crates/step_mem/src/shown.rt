@@ -8,7 +8,7 @@ ghost use Rattle.paging.specs.Uses.{is_text};
 ghost use Rattle.step_mem.specs.Guard.{mode_of, IsLaid};
 ghost use Rattle.step_mem.specs.Shown.{shown, laid, hidden};
 
-use crate::guard::Guard;
+use crate::guard::{Guard, is_text};
 use guest_ram::Ram;
 use paging::set_flags;
 
@@ -122,6 +122,9 @@ pub fn read_shown_word(ram: &Ram, guard: &Guard, frames: u32, at: u32) -> u32
     requires one { at % 4096 + 4 ≤ 4096 }
     ensures { result ≡ in_ram.word32 (shown guard.now frames ram.now) at }
 {
+    if !is_text(guard, at / 4096) {
+        return read_word(ram, guard, frames, at);
+    }
     let bytes = part(ram, guard, frames, at, 4);
     word_of(bytes.text, bytes.ram)
 }

@@ -94,6 +94,7 @@ fn marks_own(
 
 /// Notes the frames that a walk of a page reads as tables.
 #[tactic(auto, unfolding(paging::specs::Fresh::tables_read))]
+#[inline(always)]
 pub fn note_tables(ram: &Ram, control: Control, guard: &Guard, page: u32, tables: &mut Visited)
     requires frames { 4096 * control.frames ≤ length ram.now }
     requires laid { IsLaid guard.now.text.now control.frames }
