@@ -4,7 +4,7 @@ ghost use Rattle.std.specs.Prelude.{◌≡◌, ◌+◌, ◌≤◌, ◌++◌, len
 ghost use Rattle.ia32_decode.specs.Decoding.{decoded};
 ghost use Rattle.ia32_decode.specs.Spelled.{IsSpelled};
 
-use crate::answer::{Decoded, decode};
+use crate::answer::{Decoded, decode_into};
 use arrayvec::ArrayVec;
 
 /// The bytes of an instruction, as far as they were read.
@@ -27,8 +27,20 @@ pub fn decode_joined(front: &[u8], back: &[u8]) -> Decoded
     ensures exact { result ≡ decoded (front.now ++ back.now) }
     ensures spelled { IsSpelled result }
 {
+    let mut found = Decoded::Outside;
+    decode_joined_into(front, back, &mut found);
+    found
+}
+
+/// The same, where the answer is put into its place.
+#[inline(never)]
+pub fn decode_joined_into(front: &[u8], back: &[u8], found: &mut Decoded)
+    requires few { length front.now + length back.now ≤ 32 }
+    ensures exact { found.new ≡ decoded (front.now ++ back.now) }
+    ensures spelled { IsSpelled found.new }
+{
     let mut bytes: Bytes = ArrayVec::new();
     append(front, &mut bytes);
     append(back, &mut bytes);
-    decode(bytes.as_slice())
+    decode_into(bytes.as_slice(), found);
 }

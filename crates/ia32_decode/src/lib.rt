@@ -11,8 +11,8 @@ mod laws;
 mod named;
 mod numbers;
 
-pub use answer::{Decoded, decode};
-pub use bytes::{Bytes, append, decode_joined};
+pub use answer::{Decoded, decode, decode_into};
+pub use bytes::{Bytes, append, decode_joined, decode_joined_into};
 pub use front::{LONGEST, front_len, next_page};
 pub use laws::{answers, reads_back};
 pub use named::refused;

@@ -1,5 +1,0 @@
-use Rattle.ia32_decode.proofs.Fronts.{spelled_by}
-use Rattle.ia32_decode.proofs.bytes.decode_joined.Goals as goal
-
-pub returns-clause-spelled : goal.returns-clause-spelled
-returns-clause-spelled c = spelled_by _ c.decode.result c.decode.ensures.insn
