@@ -1,16 +1,17 @@
 //! The outcome of an instruction that was fetched.
 
-ghost use Rattle.std.specs.Prelude.{◌≡◌, ◌==◌, ◌≤◌, List, ℕ, IfOk, OnOk, OnErr, Ok, Some, None};
+ghost use Rattle.std.specs.Prelude.{◌≡◌, ◌==◌, ◌≤◌, List, ℕ, IfOk, OnOk, OnErr, Ok, Some, None, false};
 ghost use Rattle.paging.specs.Space.{Space};
 ghost use Rattle.ia32_rows.specs.Spells.{Spells};
 ghost use Rattle.sys_exec.specs.Asked.{IsAsked};
 ghost use Rattle.machine_model.specs.State.{Setting, State as Whole};
 ghost use Rattle.machine_model.specs.Instruction.{instructed};
-ghost use Rattle.machine_model.specs.Step.{by_decoded, after_instruction, after_effect};
+ghost use Rattle.machine_model.specs.Taken.{is_load};
+ghost use Rattle.machine_model.specs.Step.{by_decoded, interrupts_by, after_instruction, after_effect};
 ghost use Rattle.machine_step.specs.Begun.{AtEffect};
-ghost use Rattle.machine_step.specs.Left.{left_by_effect, left_by_outcome, left_by_op};
+ghost use Rattle.machine_step.specs.Left.{left_by_effect, left_by_int, left_by_outcome, left_by_op};
 ghost use Rattle.machine_step.specs.Over.{UsesBy};
-ghost use Rattle.machine_step.specs.Raised.{raised_by_effect, raised_by_outcome, raised_by_op};
+ghost use Rattle.machine_step.specs.Raised.{raised_by_effect, raised_by_int, raised_by_outcome, raised_by_op};
 ghost use Rattle.machine_step.specs.Roots.{RootsAs, EffectRoots};
 ghost use Rattle.machine_step.specs.Ruled.{IsRuled};
 ghost use Rattle.machine_step.specs.Worked.{ComesTo, IsDropped, answer_of, completed_of, done_by};
@@ -78,15 +79,44 @@ pub fn carry_out_at<M: StepMemory>(
     ensures leaves { M.space mem.new ≡ left_by_op insn.now.op worked.old.cpu insn.now len (M.space mem.old) }
     ensures frame { M.frame mem.new ≡ M.frame mem.old }
 {
-    let before = worked.cpu;
     match insn.op {
         Op::Int => {
             let vector = (insn.imm % 256) as u8;
-            enter(rules, insn, len, &before, worked, mem, vector)
+            enter_at(rules, insn, len, worked, mem, vector)
         }
-        Op::Int3 => enter(rules, insn, len, &before, worked, mem, 3),
-        _ => perform(rules, insn, len, &before, worked, board, mem),
+        Op::Int3 => enter_at(rules, insn, len, worked, mem, 3),
+        _ => {
+            let before = worked.cpu;
+            perform(rules, insn, len, &before, worked, board, mem)
+        }
     }
+}
+
+/// INT and INT3, which few steps are, so that the others don't make room for the processor before them.
+#[inline(never)]
+fn enter_at<M: StepMemory>(
+    rules: &Rules,
+    insn: &Insn,
+    len: u8,
+    worked: &mut Worked,
+    mem: &mut M,
+    vector: u8,
+) -> Result<(), Stop>
+    requires pages { (M.space mem.old).pages ≤ 32 }
+    requires no_load { is_load (Some (completed_of (done_by insn.now worked.old.cpu))) ≡ false }
+    requires fresh { worked.old.raised ≡ None }
+    ensures uses { OnOk result (UsesBy worked.old.cpu (M.space mem.old) (M.space mem.new)) }
+    ensures step { (m : Setting) (b : Whole) → IsRuled m rules.now → ComesTo
+        (interrupts_by m (record b { cpu = worked.old.cpu }) (completed_of (done_by insn.now worked.old.cpu)) len vector
+        (M.space mem.old)) b (answer_of result worked.new) b.board (M.space mem.new) }
+    ensures dropped { IfOk (answer_of result worked.new) (λ w. IsDropped w.dropped) }
+    ensures roots { IfOk (answer_of result worked.new) (RootsAs worked.old.cpu) }
+    ensures raised { worked.new.raised ≡ raised_by_int worked.old.cpu len vector (M.space mem.old) }
+    ensures leaves { M.space mem.new ≡ left_by_int worked.old.cpu len vector (M.space mem.old) }
+    ensures frame { M.frame mem.new ≡ M.frame mem.old }
+{
+    let before = worked.cpu;
+    enter(rules, insn, len, &before, worked, mem, vector)
 }
 
 /// Does an instruction by its row.

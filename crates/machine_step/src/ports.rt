@@ -17,6 +17,7 @@ use ia32_types::{Did, Insn, Size, Stop};
 use run_trace::What;
 
 /// IN puts what the board gives into AL or EAX.
+#[inline(always)]
 pub fn read(
     insn: &Insn,
     before: &Cpu,
@@ -72,6 +73,7 @@ fn in_item(port: u16, wide: bool, value: u32) -> What
 }
 
 /// OUT of AL or EAX.
+#[inline(always)]
 pub fn write(
     insn: &Insn,
     before: &Cpu,
