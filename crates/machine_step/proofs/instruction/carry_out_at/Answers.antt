@@ -43,7 +43,8 @@ returns-in-Int-clause-raised g c =
 pub returns-in-Int3-clause-raised : goal.returns-in-Int3-clause-raised
 returns-in-Int3-clause-raised g c =
     let a = c.args in
-    subst (λ (o : Op). c.enter_at-in-Int3.new.worked.raised ≡ raised_by_op o a.worked.now.cpu a.insn.now a.len (g.M.GuestMem.space a.mem.now))
+    subst (λ (o : Op). c.enter_at-in-Int3.new.worked.raised ≡ raised_by_op o a.worked.now.cpu a.insn.now a.len
+    (g.M.GuestMem.space a.mem.now))
     (sym c.in-Int3.is) c.enter_at-in-Int3.ensures.raised
 
 pub returns-in-Int-clause-leaves : goal.returns-in-Int-clause-leaves
