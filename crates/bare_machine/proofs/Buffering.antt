@@ -103,7 +103,7 @@ went_count keeping s b mid now (Went report new) is to =
 went_count keeping s b mid now (Halts stop) is to = absurd cc
 
 -- each such step is counted
-kept_counts : (keeping : Keeps) (s : Setting) (b mid : State) (now : Report) → kept_step keeping s b ≡ Went now mid → mid.step ≡ b.step + 1
+pub kept_counts : (keeping : Keeps) (s : Setting) (b mid : State) (now : Report) → kept_step keeping s b ≡ Went now mid → mid.step ≡ b.step + 1
 kept_counts keeping s b mid now to = went_count keeping s b mid now (step_of s b b.set) refl to
 
 went_on : (keeping : Keeps) (s : Setting) (k : ℕ) (b mid : State) (now : Report) → kept_step keeping s b ≡ Went now mid
@@ -116,7 +116,7 @@ abbrev pub up_to : Keeps → Setting → ℕ → State → Course
 up_to keeping s n b = kept_course keeping s (n - b.step) b
 
 -- steps are not counted back
-never_back : (keeping : Keeps) (s : Setting) (old last : State) (reports : List Report) → KeptSteps keeping s old reports last
+pub never_back : (keeping : Keeps) (s : Setting) (old last : State) (reports : List Report) → KeptSteps keeping s old reports last
     → old.step ≤ last.step
 unfolding KeptSteps
 never_back keeping s old last [] h =
@@ -141,14 +141,14 @@ steps_course keeping s n old last (now ∷ later) h le =
     ∙ (ap (λ (c : Course). behind (now ∷ []) c) (steps_course keeping s n h.0 last later h.2 le)
     ∙ sym (behind_join (now ∷ []) later (up_to keeping s n last))))
 
-bound_here : (keeping : Keeps) (s : Setting) (n : ℕ) (b : State) → b.step ≡ n
+pub bound_here : (keeping : Keeps) (s : Setting) (n : ℕ) (b : State) → b.step ≡ n
     → up_to keeping s n b ≡ record { reports = []; count = b.step; end = ends.Bound }
 unfolding kept_course
 bound_here keeping s n b at =
     let none : n - b.step ≡ 0 = omega (arith, at) in
     ap (λ (k : ℕ). kept_course keeping s k b) none
 
-stops_here : (keeping : Keeps) (s : Setting) (n : ℕ) (b : State) (stop : Stop) → b.step < n → step_of s b b.set ≡ Halts stop
+pub stops_here : (keeping : Keeps) (s : Setting) (n : ℕ) (b : State) (stop : Stop) → b.step < n → step_of s b b.set ≡ Halts stop
     → up_to keeping s n b ≡ record { reports = []; count = b.step; end = ends.Stopped stop }
 unfolding kept_course
 stops_here keeping s n b stop less is =

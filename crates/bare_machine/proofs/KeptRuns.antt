@@ -10,7 +10,7 @@ use Rattle.machine_model.proofs.Counting.{each_counts}
 use Rattle.bare_mem.specs.Keeping.{Keeps, kept_after}
 use Rattle.bare_machine.specs.Settings.{bare}
 use Rattle.bare_machine.specs.FreshRuns.{after_step}
-use Rattle.bare_machine.specs.Buffered.{left_of, kept_by, kept_course, buffered_run, in_buffer}
+use Rattle.bare_machine.specs.Buffered.{cut_to, kept_by, kept_course, buffered_run, in_buffer}
 use Rattle.bare_machine.specs.KeptLaws.{IsKeptRun, EachKeptCourseIsARun, EachBufferedRunIsARun}
 use Rattle.bare_machine.proofs.Leaving.{left_part}
 use Rattle.bare_machine.proofs.Runs.{part_allowed, part_same, same_step}
@@ -23,7 +23,7 @@ run_from : (keeping : Keeps) (k : ℕ) (s : Setting) (n : ℕ) (b : State) (whol
     → IsKeptRun s n (with_set b whole) (after_step b (kept_by keeping b.set r) (λ mid. kept_course keeping s k mid))
 unfolding Steps
 run_from keeping k s n b whole (Went now new) part is counts left later =
-    let kept = left_of new.set (kept_after keeping b.set now.pages new.set) in
+    let kept = cut_to new.set (kept_after keeping b.set now.pages new.set) in
     let mid = with_set new kept in
     let l = later mid new.set (left_part new.set (kept_after keeping b.set now.pages new.set)) (omega (arith, counts, left)) in
     record {

@@ -21,7 +21,7 @@ use Rattle.machine_step.specs.declared.worked.Dropped.{Dropped}
 use Rattle.machine_step.specs.declared.worked.Dropped.TheVariants as dropped
 use Rattle.machine_step.specs.Worked.{dropping}
 use Rattle.bare_machine.specs.Dropping.{drops, is_change}
-use Rattle.bare_machine.specs.Buffered.{left_of}
+use Rattle.bare_machine.specs.Buffered.{cut_to}
 
 -- ---- equal entries
 
@@ -500,8 +500,8 @@ kept_same keeping set c pages h =
 
 -- ---- a part of what a step left
 
-get_left_of : (whole set : Set) (q : ℕ) → get (left_of whole set) q ≡ cond (is_none (new_entry (get whole q) (get set q))) (get set q) None
-get_left_of whole set q =
+get_cut_to : (whole set : Set) (q : ℕ) → get (cut_to whole set) q ≡ cond (is_none (new_entry (get whole q) (get set q))) (get set q) None
+get_cut_to whole set q =
     let p : ℕ → Bool = λ page. is_none (new_entry (get whole page) (get set page)) in
     get-retain_keys set p q (λ x t. ap p (sym (nat_cmp-IsAntisymmetric q x t)))
 
@@ -518,17 +518,17 @@ part_found true o whole e h f = f refl h
 part_found false o whole e h f = absurd (none-some e h)
 
 -- it is one
-pub left_part : (whole set : Set) → IsPartOf (left_of whole set) whole
+pub left_part : (whole set : Set) → IsPartOf (cut_to whole set) whole
 left_part whole set = record {
   each = λ q e is.
-      part_found (is_none (new_entry (get whole q) (get set q))) (get set q) (get whole q) e (sym (get_left_of whole set q) ∙ is)
+      part_found (is_none (new_entry (get whole q) (get set q))) (get set q) (get whole q) e (sym (get_cut_to whole set q) ∙ is)
       (λ none there. had_none (get whole q) e (ap (λ (o : Option Entry). is_none (new_entry (get whole q) o)) (sym there) ∙ none));
 }
 
 -- what is one already stays as it is
-pub left_same : (whole set : Set) → IsPartOf set whole → left_of whole set ≡ set
+pub left_same : (whole set : Set) → IsPartOf set whole → cut_to whole set ≡ set
 left_same whole set part =
-    same_map nat_cmp_total nat_cmp-IsAntisymmetric _ _ (λ q. get_left_of whole set q ∙ by_entry (get whole q) (get set q) (part.each q))
+    same_map nat_cmp_total nat_cmp-IsAntisymmetric _ _ (λ q. get_cut_to whole set q ∙ by_entry (get whole q) (get set q) (part.each q))
   where
     by_entry : (w o : Option Entry) → ((e : Entry) → o ≡ Some e → w ≡ Some e) → cond (is_none (new_entry w o)) o None ≡ o
     by_entry w None h = either_way (is_none (new_entry w None)) None

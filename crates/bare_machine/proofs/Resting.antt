@@ -13,7 +13,7 @@ use Rattle.bare_machine.specs.Machine.{Rests, StepsBy, translations_of}
 use Rattle.machine_model.specs.Step.{Went}
 use Rattle.machine_step.specs.declared.worked.Dropped.TheVariants as dropped
 use Rattle.bare_mem.specs.Keeping.{Keeps}
-use Rattle.bare_machine.specs.Buffered.{left_of, kept_by, kept_step, KeptSteps, KeptRests}
+use Rattle.bare_machine.specs.Buffered.{cut_to, kept_by, kept_step, KeptSteps, KeptRests}
 use Rattle.bare_machine.proofs.Leaving.{kept_unchanged, left_same}
 use Rattle.bare_machine.proofs.Runs.{part_same, no_steps, by_none}
 
@@ -88,7 +88,7 @@ module _ (halted : HaltedSteps) where
   kept_idle keeping s cpu ram set board t j sleeps =
       ap (kept_by keeping set) ((halted.each s cpu ram board t j sleeps).goes set set)
       ∙ ap (λ (x : Set). Went nothing (resting cpu ram x (board_step board) (t + 1 + 1)))
-      (ap (left_of set) (sym (kept_unchanged keeping dropped.Nothing set [])) ∙ left_same set set (part_same set))
+      (ap (cut_to set) (sym (kept_unchanged keeping dropped.Nothing set [])) ∙ left_same set set (part_same set))
 
   idle_kept : (keeping : Keeps) (k : ℕ) (s : Setting) (cpu : Cpu) (ram : List ℕ) (set : Set) (board : Board) (t : ℕ)
       → SleepsThrough cpu board s.script t (suc k)

@@ -23,12 +23,12 @@ use Rattle.bare_machine.specs.Slices.{PausesAs}
 use Rattle.bare_machine.specs.FreshRuns.{Course, after_step}
 
 -- of these translations those that are in the whole
-abbrev pub left_of : (whole set : Set) → Set
-left_of whole set = retain_keys set (λ page. is_none (new_entry (get whole page) (get set page)))
+abbrev pub cut_to : (whole set : Set) → Set
+cut_to whole set = retain_keys set (λ page. is_none (new_entry (get whole page) (get set page)))
 
 -- after a step that went, the cache holds what it keeps of the set that the step left, and nothing else
 abbrev pub kept_by : Keeps → Set → steps.Result → steps.Result
-kept_by keeping old (Went report new) = Went report (with_set new (left_of new.set (kept_after keeping old report.pages new.set)))
+kept_by keeping old (Went report new) = Went report (with_set new (cut_to new.set (kept_after keeping old report.pages new.set)))
 kept_by keeping old (Halts stop) = Halts stop
 
 -- the step by what the cache holds

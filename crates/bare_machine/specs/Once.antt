@@ -11,18 +11,21 @@ use Rattle.machine_step.specs.Begun.{taken_by}
 use Rattle.machine_step.specs.Left.{left_of, denied_page}
 use Rattle.machine_step.specs.Raised.{raised_of}
 use Rattle.machine_step.specs.Worked.{whats}
+use Rattle.bare_mem.specs.Keeping.{Keeps}
+use Rattle.bare_machine.specs.Buffered.{kept_step}
 use Rattle.bare_machine.specs.Machine.{Passes}
 use Rattle.bare_machine.specs.declared.once.Stepped.{Stepped}
 use Rattle.bare_machine.specs.declared.once.StepStop.{StepStop}
 
 -- The step by what the cache holds went, and these are its items and what it raised. What it leaves is cached then, of which
--- some may have been dropped, but none by an exact cache.
-pub record WentOnce (s : Setting) (exact : Bool) (old new : State) (done : Stepped) : Type 0 where
+-- some may have been dropped, but none by an exact cache: exactly what this cache keeps of it.
+pub record WentOnce (keeping : Keeps) (s : Setting) (exact : Bool) (old new : State) (done : Stepped) : Type 0 where
   pub report : Report
   pub whole : Set
   pub went : step_of s old old.set ≡ Went report (with_set new whole)
   pub part : IsPartOf new.set whole
   pub all : exact ≡ true → new.set ≡ whole
+  pub kept : kept_step keeping s old ≡ Went report new
   pub items : items_at old.step (whats done.seen) ≡ report.items
   pub raised : done.raised ≡ raised_of s old old.set
   pub count : new.step ≡ old.step + 1
@@ -45,6 +48,6 @@ pub record StopsOnce (s : Setting) (old new : State) (stopped : StepStop) : Type
   pub count : new.step ≡ old.step
 
 -- one step went, or stops
-abbrev pub OnceAs : Setting → Bool → State → State → Result Stepped StepStop → Type 0
-OnceAs s exact old new (Ok done) = WentOnce s exact old new done
-OnceAs s exact old new (Err stopped) = StopsOnce s old new stopped
+abbrev pub OnceAs : Keeps → Setting → Bool → State → State → Result Stepped StepStop → Type 0
+OnceAs keeping s exact old new (Ok done) = WentOnce keeping s exact old new done
+OnceAs keeping s exact old new (Err stopped) = StopsOnce s old new stopped

@@ -13,6 +13,7 @@ ghost use Rattle.bare_machine.specs.Events.{NoneComes};
 ghost use Rattle.bare_machine.specs.Machine.{state_of, IsKept, GoesOn};
 ghost use Rattle.bare_machine.specs.Once.{OnceAs};
 ghost use Rattle.bare_machine.specs.Settings.{bare};
+ghost use Rattle.bare_machine.specs.Stepping.{StaysWide};
 ghost use Rattle.bare_machine.specs.Slices.{SliceAs, OneStepAs};
 ghost use Rattle.run_trace.specs.Pauses.{IfReached};
 ghost use Rattle.bare_machine.specs.Starts.{StartedAs, with_cache};
@@ -125,13 +126,12 @@ impl<C: Cache> Bare<C> {
         requires bound { self.old.step < 2 ^ 40 }
         requires none { NoneComes script.now.list self.old.step room.old.next }
         ensures none { NoneComes script.now.list (self.old.step + 1) room.new.next }
-        ensures once { (image : Image) → OnceAs
+        ensures once { (image : Image) → OnceAs C.keeping
             (bare image script.now.list self.old.frames) (C.is_exact self.old.kept.cache)
             (state_of C.entries self.old) (state_of C.entries self.new) result }
         ensures goes_on { OnOk result (GoesOn C.entries C.is_exact self.old self.new) }
         ensures fit { Fit self.old.cpu → OnOk result (Fit self.new.cpu) }
-        ensures frames { self.new.frames ≡ self.old.frames }
-        ensures size { length self.new.ram ≡ length self.old.ram }
+        ensures wide { StaysWide self.old self.new }
     {
         one_step(&mut self.machine, script, room)
     }

@@ -1,8 +1,6 @@
 //! A halted processor that waits.
 
-ghost use Rattle.std.specs.Prelude.{◌≡◌, ◌+◌, ◌-◌, ◌≤◌, ◌<◌, ◌^◌, true, false, None};
-ghost use Rattle.board.specs.Boards.{with_timer_edge};
-ghost use Rattle.board.specs.Quiet.{comes_within, event_within};
+ghost use Rattle.std.specs.Prelude.{◌≡◌, ◌≤◌, ◌<◌, ◌^◌, true, false, None};
 ghost use Rattle.board.specs.ScriptForm.{is_script};
 ghost use Rattle.image_check.specs.Image.{Image};
 ghost use Rattle.machine_model.specs.Run.{Set};
@@ -11,6 +9,7 @@ ghost use Rattle.paging.specs.Part.{IsPartOf};
 ghost use Rattle.bare_machine.specs.Buffered.{KeptRests};
 ghost use Rattle.bare_machine.specs.Machine.{state_of, IsKept, GoesOn, Rests};
 ghost use Rattle.bare_machine.specs.Settings.{bare};
+ghost use Rattle.bare_machine.specs.Stepping.{EndsRest};
 
 use crate::machine::BareMachine;
 use board::Script;
@@ -32,15 +31,10 @@ pub fn rest<C: Cache>(machine: &mut BareMachine<C>, script: &Script, n: u64)
         (state_of C.entries machine.old) (state_of C.entries machine.new) }
     ensures goes_on { GoesOn C.entries C.is_exact machine.old machine.new }
     ensures cpu { machine.new.cpu ≡ machine.old.cpu }
-    // Short of the bound it ends only where something reaches the board in the next step.
-    ensures furthest { machine.old.cpu.halted ≡ true → machine.old.cpu.held ≡ false
+    // Short of the bound it ends only where what can wake it comes.
+    ensures ends { machine.old.cpu.halted ≡ true → machine.old.cpu.held ≡ false
         → interrupt_of machine.old.cpu machine.old.board ≡ None → machine.new.step < n
-        → comes_within machine.old.board script.now.list (machine.old.step - 1) (machine.new.step - machine.old.step + 1) ≡ true }
-    // An edge of the timer that doesn't wake the processor ends it nowhere.
-    ensures past_edges { machine.old.cpu.halted ≡ true → machine.old.cpu.held ≡ false
-        → interrupt_of machine.old.cpu machine.old.board ≡ None
-        → interrupt_of machine.old.cpu (with_timer_edge machine.old.board) ≡ None → machine.new.step < n
-        → event_within (machine.old.step - 1) (machine.new.step - machine.old.step + 1) script.now.list ≡ true }
+        → EndsRest script.now.list (state_of C.entries machine.old) (state_of C.entries machine.new) }
     ensures later { machine.old.step ≤ machine.new.step }
     ensures within { machine.new.step ≤ n }
 {

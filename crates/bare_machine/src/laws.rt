@@ -1,7 +1,7 @@
 //! Laws of runs in parts, and of runs that begin each step with nothing cached.
 
 ghost use Rattle.bare_machine.specs.FreshLaws.{EachCourseIsARun};
-ghost use Rattle.bare_machine.specs.KeptLaws.{EachKeptCourseIsARun, EachBufferedRunIsARun};
+ghost use Rattle.bare_machine.specs.KeptLaws.{EachKeptCourseIsARun, EachBufferedRunIsARun, KeptSets};
 ghost use Rattle.bare_machine.specs.Parts.{BeginsHere, SliceGoesOn, ChangeGoesOn, LossGoesOn, PartsAreARun};
 
 /// Slices, between which a cache was changed, are one run, where what was left in it is loosened from what the last step
@@ -24,4 +24,9 @@ pub fn each_course_is_a_run()
 pub fn each_kept_course_is_a_run()
     ensures courses { EachKeptCourseIsARun }
     ensures buffered { EachBufferedRunIsARun }
+{}
+
+/// After one step by itself that went the cache holds what it keeps of what the step left, and nothing else.
+pub fn kept_sets()
+    ensures { KeptSets }
 {}

@@ -17,7 +17,7 @@ mod slice;
 pub use bare::Bare;
 pub use ending::end_run;
 pub use fresh::run_fresh;
-pub use laws::{each_course_is_a_run, each_kept_course_is_a_run, parts_join};
+pub use laws::{each_course_is_a_run, each_kept_course_is_a_run, kept_sets, parts_join};
 pub use machine::BareMachine;
 pub use once::{StepRoom, StepStop, Stepped};
 pub use run::{run_bare, run_on};

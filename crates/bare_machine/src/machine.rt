@@ -1,20 +1,16 @@
 //! The bare machine and one step of it.
 
 ghost use Rattle.std.specs.Prelude.{◌≡◌, ◌+◌, ◌*◌, ◌≤◌, ◌<◌, ◌^◌, length, true, IfOk, OnOk, OnErr, MatchResult};
-ghost use Rattle.board.specs.Boards.{given};
 ghost use Rattle.board.specs.Scripts.{Events};
 ghost use Rattle.board.specs.ScriptForm.{is_script};
 ghost use Rattle.image_check.specs.Image.{Image};
 ghost use Rattle.step_mem.specs.Changes.{AreToldIn, AreWithin, changed};
 ghost use Rattle.step_mem.specs.Sound.{space};
 ghost use Rattle.machine_model.specs.State.{State};
-ghost use Rattle.machine_model.specs.Step.{stepped};
-ghost use Rattle.machine_step.specs.Left.{left_of, left_from};
-ghost use Rattle.machine_step.specs.Raised.{raised_of, raised_from};
-ghost use Rattle.machine_step.specs.Worked.{ComesTo, IsDropped, answer_of};
-ghost use Rattle.bare_machine.specs.Buffered.{KeptAs, kept_step};
-ghost use Rattle.bare_machine.specs.Machine.{state_of, own_step, StepAs, IsKept, GoesOn};
+ghost use Rattle.machine_step.specs.Worked.{IsDropped, answer_of};
+ghost use Rattle.bare_machine.specs.Machine.{state_of, IsKept, GoesOn};
 ghost use Rattle.bare_machine.specs.Once.{taken_in};
+ghost use Rattle.bare_machine.specs.Stepping.{ComesAs, StopLeaves, WorksAs};
 ghost use Rattle.bare_machine.specs.Settings.{bare};
 ghost use Rattle.bare_machine.specs.Events.{NoneComes};
 
@@ -44,8 +40,8 @@ pub struct BareMachine<C: Cache> {
 /// The bare machine keeps no text from the guest.
 pub static NO_TEXT: Option<Text<'static>> = None;
 
-/// One step, or the stop that it meets. No event of the script comes before the step `next`. Its state and its outcome take the places of the step's before. After a stop
-/// the machine must not go on.
+/// One step, or the stop that it meets. No event of the script comes before the step `next`. Its state and its outcome take the
+/// places of the step's before. After a stop the machine must not go on.
 #[tactic(auto, unfolding(machine_model::specs::Step::step_of))]
 #[inline(always)]
 pub fn step<C: Cache>(
@@ -62,23 +58,13 @@ pub fn step<C: Cache>(
     requires same { worked.old.cpu ≡ machine.old.cpu }
     ensures same { OnOk result (worked.new.cpu ≡ machine.new.cpu) }
     ensures none { NoneComes script.now.list (machine.old.step + 1) next.new }
-    ensures step { (image : Image) → StepAs
-        (own_step (bare image script.now.list machine.old.frames) (state_of C.entries machine.old))
-        result machine.old.step (C.is_exact machine.old.kept.cache) (state_of C.entries machine.new) }
-    ensures kept { (image : Image) → KeptAs (kept_step C.keeping (bare image script.now.list machine.old.frames)
-        (state_of C.entries machine.old)) result machine.old.step (state_of C.entries machine.new) }
-    ensures goes_on { OnOk result (GoesOn C.entries C.is_exact machine.old machine.new) }
-    ensures frames { machine.new.frames ≡ machine.old.frames }
-    ensures size { length machine.new.ram ≡ length machine.old.ram }
+    ensures comes { (image : Image) → ComesAs C.keeping (bare image script.now.list machine.old.frames)
+        (C.is_exact machine.old.kept.cache) (state_of C.entries machine.old) (state_of C.entries machine.new)
+        worked.new.raised result }
     ensures count { MatchResult result (λ _. machine.new.step ≡ machine.old.step + 1) (λ _. machine.new.step ≡ machine.old.step) }
-    ensures raised { (image : Image) → worked.new.raised ≡ raised_of (bare image script.now.list machine.old.frames)
-        (state_of C.entries machine.old) (C.entries machine.old.kept.cache) }
-    ensures stopped_leaves { OnErr result ((image : Image) → space ⟦<Cached<C> as step_mem::Translations>⟧ machine.new.kept machine.new.ram state.new
-        ≡ left_of (bare image script.now.list machine.old.frames) (state_of C.entries machine.old) (C.entries machine.old.kept.cache)) }
-    ensures stopped_cpu { OnErr result (machine.new.cpu ≡ machine.old.cpu) }
-    ensures stopped_kept { OnErr result (machine.new.kept ≡ machine.old.kept) }
-    ensures stopped_board { OnErr result (machine.new.board
-        ≡ taken_in machine.old.cpu (given machine.old.board script.now.list machine.old.step)) }
+    ensures goes_on { OnOk result (GoesOn C.entries C.is_exact machine.old machine.new) }
+    ensures stops { OnErr result ((image : Image) → StopLeaves C.entries (bare image script.now.list machine.old.frames)
+        (space ⟦<Cached<C> as step_mem::Translations>⟧ machine.new.kept machine.new.ram state.new) machine.old machine.new) }
 {
     begin(&mut machine.board, script, machine.step, next);
     let result = tried(
@@ -115,22 +101,15 @@ fn tried<C: Cache>(
 ) -> Result<(), Stop>
     requires ram { 4096 * frames ≤ length ram.old }
     requires within { AreWithin frames (C.entries kept.now.cache) }
-    ensures ram { 4096 * frames ≤ length ram.new }
     ensures size { length ram.new ≡ length ram.old }
     ensures within { AreWithin frames (changed (C.entries kept.now.cache) state.new.changes) }
     ensures page { IfOk (answer_of result worked.new) (λ w. IsDropped w.dropped) }
     ensures told { AreToldIn state.new.visited state.new.changes }
     ensures few { length state.new.visited ≤ 64 }
     ensures memory { (space ⟦<Cached<C> as step_mem::Translations>⟧ kept.now ram.new state.new).ram ≡ ram.new }
-    ensures comes { (image : Image) (script : Events) (b : State) → ComesTo
-        (stepped (bare image script frames)
-        (record b { cpu = worked.old.cpu; ram = ram.old; set = C.entries kept.now.cache; board = board.old }))
-        b (answer_of result worked.new) board.new (space ⟦<Cached<C> as step_mem::Translations>⟧ kept.now ram.new state.new) }
-    ensures raised { (image : Image) (script : Events) (b : State) → worked.new.raised ≡ raised_from (bare image script frames)
-        (record b { cpu = worked.old.cpu; ram = ram.old; set = C.entries kept.now.cache; board = board.old }) }
-    ensures leaves { (image : Image) (script : Events) (b : State)
-        → space ⟦<Cached<C> as step_mem::Translations>⟧ kept.now ram.new state.new ≡ left_from (bare image script frames)
-        (record b { cpu = worked.old.cpu; ram = ram.old; set = C.entries kept.now.cache; board = board.old }) }
+    ensures works { (image : Image) (script : Events) (b : State) → WorksAs (bare image script frames) b
+        (record b { cpu = worked.old.cpu; ram = ram.old; set = C.entries kept.now.cache; board = board.old })
+        worked.new result board.new (space ⟦<Cached<C> as step_mem::Translations>⟧ kept.now ram.new state.new) }
     ensures stopped { OnErr result (board.new ≡ taken_in worked.old.cpu board.old) }
 {
     let _len = ram.len();

@@ -13,6 +13,7 @@ ghost use Rattle.bare_machine.specs.Events.{NoneComes};
 ghost use Rattle.bare_machine.specs.Machine.{state_of, IsKept, GoesOn};
 ghost use Rattle.bare_machine.specs.Once.{OnceAs};
 ghost use Rattle.bare_machine.specs.Settings.{bare};
+ghost use Rattle.bare_machine.specs.Stepping.{StaysWide};
 
 use crate::machine::{BareMachine, NO_TEXT, step};
 use crate::slice::segment_count;
@@ -102,13 +103,12 @@ pub fn one_step<C: Cache>(
     requires bound { machine.old.step < 2 ^ 40 }
     requires none { NoneComes script.now.list machine.old.step room.old.next }
     ensures none { NoneComes script.now.list (machine.old.step + 1) room.new.next }
-    ensures once { (image : Image) → OnceAs
+    ensures once { (image : Image) → OnceAs C.keeping
         (bare image script.now.list machine.old.frames) (C.is_exact machine.old.kept.cache)
         (state_of C.entries machine.old) (state_of C.entries machine.new) result }
     ensures goes_on { OnOk result (GoesOn C.entries C.is_exact machine.old machine.new) }
     ensures fit { Fit machine.old.cpu → OnOk result (Fit machine.new.cpu) }
-    ensures frames { machine.new.frames ≡ machine.old.frames }
-    ensures size { length machine.new.ram ≡ length machine.old.ram }
+    ensures wide { StaysWide machine.old machine.new }
 {
     runs_keep_fit();
     segment_count(&machine.cpu.seg);

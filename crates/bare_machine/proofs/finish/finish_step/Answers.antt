@@ -8,7 +8,7 @@ use Rattle.machine_model.specs.Run.{Set}
 use Rattle.machine_model.specs.Step.{Report, Went, items_at}
 use Rattle.bare_mem.specs.Keeping.{kept_after}
 use Rattle.board.proofs.QuietSteps.{one_step}
-use Rattle.bare_machine.specs.Buffered.{left_of}
+use Rattle.bare_machine.specs.Buffered.{cut_to}
 use Rattle.bare_machine.proofs.Leaving.{left_same}
 use Rattle.bare_machine.proofs.Steps.{within_dropped}
 use Rattle.bare_machine.proofs.finish.finish_step.Goals as goal
@@ -44,9 +44,9 @@ returns-clause-kept g c = λ whats completed s ram visited set.
     let new = g.C.Cache.entries c.leave.new.kept.cache in
     record {
       report = record { items = items_at m.step whats; completed = completed; pages = s.visited; tables = s.tables; wrote = s.wrote };
-      went = led _ c.args.cpu.now s.ram m.ram (left_of s.set (kept_after g.C.Cache.keeping old s.visited s.set)) new
+      went = led _ c.args.cpu.now s.ram m.ram (cut_to s.set (kept_after g.C.Cache.keeping old s.visited s.set)) new
           (board_step m.board) _ (m.step + 1) ram
-          (ap (left_of s.set) (ap (λ (pages : List ℕ). kept_after g.C.Cache.keeping old pages s.set) visited
+          (ap (cut_to s.set) (ap (λ (pages : List ℕ). kept_after g.C.Cache.keeping old pages s.set) visited
           ∙ (ap (kept_after g.C.Cache.keeping old c.args.pages.now) set ∙ sym c.leave.ensures.kept))
           ∙ left_same s.set new (subst (IsPartOf new) (sym set) (c.leave.ensures.part m.frames c.requires.within)))
           (sym (c.advance.ensures ∙ one_step m.board));

@@ -15,29 +15,23 @@ returns-then-k-gt0-clause-rests g c = λ image whole part.
     rw c.advance.ensures (rests_some c.halted_steps_rest.ensures c.resting_steps-k.result s (state_of g.C.Cache.entries m) whole
     c.requires.begun c.resting_steps-k.ensures.held c.resting_steps-k.ensures.sleeps part)
 
-pub returns-else-k-gt0-clause-furthest : goal.returns-else-k-gt0-clause-furthest
-returns-else-k-gt0-clause-furthest g c = λ halted held none less.
+pub returns-else-k-gt0-clause-ends : goal.returns-else-k-gt0-clause-ends
+returns-else-k-gt0-clause-ends g c = λ halted held none less.
     let step = c.args.machine.now.step in
     let same : step - step ≡ c.resting_steps-k.result = omega (arith, c.if-k-gt0.false) in
-    rw same (c.resting_steps-k.ensures.furthest halted held none (omega (arith, less, c.if-k-gt0.false)))
+    record {
+      furthest = rw same (c.resting_steps-k.ensures.furthest halted held none (omega (arith, less, c.if-k-gt0.false)));
+      past_edges = λ asleep. rw same (c.resting_steps-k.ensures.past_edges halted held none asleep (omega (arith, less, c.if-k-gt0.false)));
+    }
 
-pub returns-then-k-gt0-clause-furthest : goal.returns-then-k-gt0-clause-furthest
-returns-then-k-gt0-clause-furthest g c = λ halted held none less.
+pub returns-then-k-gt0-clause-ends : goal.returns-then-k-gt0-clause-ends
+returns-then-k-gt0-clause-ends g c = λ halted held none less.
     let step = c.args.machine.now.step in
     let same : (step + c.resting_steps-k.result) - step ≡ c.resting_steps-k.result = omega arith in
-    rw same (c.resting_steps-k.ensures.furthest halted held none (omega (arith, less)))
-
-pub returns-else-k-gt0-clause-past_edges : goal.returns-else-k-gt0-clause-past_edges
-returns-else-k-gt0-clause-past_edges g c = λ halted held none asleep less.
-    let step = c.args.machine.now.step in
-    let same : step - step ≡ c.resting_steps-k.result = omega (arith, c.if-k-gt0.false) in
-    rw same (c.resting_steps-k.ensures.past_edges halted held none asleep (omega (arith, less, c.if-k-gt0.false)))
-
-pub returns-then-k-gt0-clause-past_edges : goal.returns-then-k-gt0-clause-past_edges
-returns-then-k-gt0-clause-past_edges g c = λ halted held none asleep less.
-    let step = c.args.machine.now.step in
-    let same : (step + c.resting_steps-k.result) - step ≡ c.resting_steps-k.result = omega arith in
-    rw same (c.resting_steps-k.ensures.past_edges halted held none asleep (omega (arith, less)))
+    record {
+      furthest = rw same (c.resting_steps-k.ensures.furthest halted held none (omega (arith, less)));
+      past_edges = λ asleep. rw same (c.resting_steps-k.ensures.past_edges halted held none asleep (omega (arith, less)));
+    }
 
 pub returns-else-k-gt0-clause-kept : goal.returns-else-k-gt0-clause-kept
 returns-else-k-gt0-clause-kept g c = λ image. kept_rests_none g.C.Cache.keeping

@@ -6,10 +6,6 @@ use Rattle.bare_machine.proofs.machine.tried.Goals as goal
 pub returns-clause-memory : goal.returns-clause-memory
 returns-clause-memory g c = rw c.step_again.ensures.stays.1 refl
 
-pub returns-clause-comes : goal.returns-clause-comes
-returns-clause-comes g c =
-    λ image script b. c.step_again.ensures.step (bare image script c.args.frames) b (record { has = refl; over = tt })
-
 -- nothing that lies past the frames changed, so memory is as long as it was
 pub returns-clause-size : goal.returns-clause-size
 returns-clause-size g c =
@@ -21,16 +17,17 @@ returns-clause-size g c =
     let before = c.requires.ram in
     omega (arith, e, length-drop n c.step_again.new.ram, length-drop n c.args.ram.now, room, frames, before)
 
-pub returns-clause-raised : goal.returns-clause-raised
-returns-clause-raised g c =
-    λ image script b. c.step_again.ensures.raised (bare image script c.args.frames) b (record { has = refl; over = tt })
-
 pub returns-clause-told : goal.returns-clause-told
 returns-clause-told g c = c.step_again.ensures.sound.told
 
 pub returns-clause-few : goal.returns-clause-few
 returns-clause-few g c = omega (arith, c.step_again.ensures.sound.visits, c.step_again.ensures.sound.few)
 
-pub returns-clause-leaves : goal.returns-clause-leaves
-returns-clause-leaves g c =
-    λ image script b. c.step_again.ensures.leaves (bare image script c.args.frames) b (record { has = refl; over = tt })
+pub returns-clause-works : goal.returns-clause-works
+returns-clause-works g c = λ image script b.
+    let s = bare image script c.args.frames in
+    record {
+      comes = c.step_again.ensures.step s b (record { has = refl; over = tt });
+      raises = c.step_again.ensures.raised s b (record { has = refl; over = tt });
+      leaves = c.step_again.ensures.leaves s b (record { has = refl; over = tt });
+    }

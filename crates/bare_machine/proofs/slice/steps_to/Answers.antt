@@ -34,10 +34,10 @@ loop-machine-preserved g c = record {
       subst (λ (f : ℕ). Goes (step_of (bare image c.args.script.now.list f) (state_of e m) (e m.kept.cache)) m.step (whats c.in-Ok.seen)
       exact (state_of e c.step.new.machine)) c.loop-machine.invariant.goes_on.frames
       (subst (λ (x : Bool). Goes (step_of (bare image c.args.script.now.list m.frames) (state_of e m) (e m.kept.cache)) m.step
-      (whats c.in-Ok.seen) x (state_of e c.step.new.machine)) c.loop-machine.invariant.goes_on.exact (c.in-Ok.ensures.step image)) in
+      (whats c.in-Ok.seen) x (state_of e c.step.new.machine)) c.loop-machine.invariant.goes_on.exact (c.in-Ok.ensures.comes image).step) in
       let rests =
       subst (λ (f : ℕ). Rests (bare image c.args.script.now.list f) (state_of e c.step.new.machine) goes.whole
-      (state_of e c.rest.new.machine)) (c.in-Ok.ensures.frames ∙ c.loop-machine.invariant.goes_on.frames) (c.rest.ensures.rests image
+      (state_of e c.rest.new.machine)) (c.in-Ok.ensures.goes_on.frames ∙ c.loop-machine.invariant.goes_on.frames) (c.rest.ensures.rests image
       goes.whole goes.part) in
       going_on (bare image c.args.script.now.list c.args.machine.now.frames) exact (state_of e c.args.machine.now) (state_of e m)
       (state_of e c.step.new.machine) (state_of e c.rest.new.machine) (whats c.in-Ok.seen) (g.O.Sink.taken c.args.out.now)
@@ -50,10 +50,10 @@ loop-machine-preserved g c = record {
       let led =
       subst (λ (f : ℕ). LedTo (kept_step g.C.Cache.keeping (bare image c.args.script.now.list f) (state_of e m)) m.step (whats c.in-Ok.seen)
       (state_of e c.step.new.machine)) c.loop-machine.invariant.goes_on.frames
-      (c.in-Ok.ensures.kept image) in
+      (c.in-Ok.ensures.comes image).kept in
       let rests =
       subst (λ (f : ℕ). KeptRests g.C.Cache.keeping (bare image c.args.script.now.list f) (state_of e c.step.new.machine)
-      (state_of e c.rest.new.machine)) (c.in-Ok.ensures.frames ∙ c.loop-machine.invariant.goes_on.frames) (c.rest.ensures.kept image) in
+      (state_of e c.rest.new.machine)) (c.in-Ok.ensures.goes_on.frames ∙ c.loop-machine.invariant.goes_on.frames) (c.rest.ensures.kept image) in
       kept_going_on g.C.Cache.keeping s (state_of e c.args.machine.now) (state_of e m) (state_of e c.step.new.machine)
       (state_of e c.rest.new.machine) (whats c.in-Ok.seen) (g.O.Sink.taken c.args.out.now) (g.O.Sink.taken c.loop-machine.out)
       (g.O.Sink.taken c.put_seen.new.out)
@@ -80,7 +80,7 @@ returns-in-Err-clause-slice g c = λ image.
         c.loop-machine-test.true,
         c.in-Err.ensures.count,
         subst (λ (f : ℕ). step_of (bare image c.args.script.now.list f) (state_of e m) (e m.kept.cache) ≡ Halts c.in-Err.stop)
-            c.loop-machine.invariant.goes_on.frames (c.in-Err.ensures.step image),
+            c.loop-machine.invariant.goes_on.frames (c.in-Err.ensures.comes image).step,
       );
       text = going.text;
     }
@@ -94,7 +94,7 @@ returns-in-Err-put_seen-clause-slice g c = λ image.
     subst (λ (f : ℕ). Goes (step_of (bare image c.args.script.now.list f) (state_of e m) (e m.kept.cache)) m.step (whats c.in-Ok.seen) exact
     (state_of e c.step.new.machine)) c.loop-machine.invariant.goes_on.frames
     (subst (λ (x : Bool). Goes (step_of (bare image c.args.script.now.list m.frames) (state_of e m) (e m.kept.cache)) m.step
-    (whats c.in-Ok.seen) x (state_of e c.step.new.machine)) c.loop-machine.invariant.goes_on.exact (c.in-Ok.ensures.step image)) in
+    (whats c.in-Ok.seen) x (state_of e c.step.new.machine)) c.loop-machine.invariant.goes_on.exact (c.in-Ok.ensures.comes image).step) in
     let going = c.loop-machine.invariant.going image in
     record {
       reports = going.reports ++ goes.report ∷ [];
@@ -129,7 +129,7 @@ returns-in-Err-clause-kept g c = λ image.
         c.loop-machine-test.true,
         c.in-Err.ensures.count,
         subst (λ (f : ℕ). step_of (bare image c.args.script.now.list f) (state_of e m) (e m.kept.cache) ≡ Halts c.in-Err.stop)
-            c.loop-machine.invariant.goes_on.frames (c.in-Err.ensures.step image),
+            c.loop-machine.invariant.goes_on.frames (c.in-Err.ensures.comes image).step,
       );
       text = near.text;
     }
@@ -143,7 +143,7 @@ returns-in-Err-put_seen-clause-kept g c = λ image.
     let led =
     subst (λ (f : ℕ). LedTo (kept_step g.C.Cache.keeping (bare image c.args.script.now.list f) (state_of e m)) m.step (whats c.in-Ok.seen)
     (state_of e c.step.new.machine)) c.loop-machine.invariant.goes_on.frames
-    (c.in-Ok.ensures.kept image) in
+    (c.in-Ok.ensures.comes image).kept in
     record {
       reports = near.reports ++ led.report ∷ [];
       last = state_of e c.step.new.machine;
