@@ -10,6 +10,7 @@ pub mod Law
 pub mod Branches
 pub mod Numerals
 pub mod Pieces
+pub mod LinePieces
 pub mod FormPieces
 pub mod Readable
 pub mod WrittenForms

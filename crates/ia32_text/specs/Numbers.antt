@@ -1,5 +1,6 @@
 -- Numbers in hexadecimal, with lower-case digits and without leading zeros.
 use Rattle.std.specs.Prelude.{ℕ, ◌+◌, ◌-◌, ◌/◌, ◌%◌, ◌^◌, ℤ, pos, negsuc, List, [], ◌∷◌, ◌++◌, codes, nat_lt, if◌then◌else◌}
+use Rattle.std.specs.List.{flat_map}
 use Rattle.ia32_types.specs.declared.addresses.TheConstants.{TEXT_ADDRESS}
 use Rattle.run_trace.specs.Text.{hex_digit, hex2, hex4}
 
@@ -25,3 +26,7 @@ signed_long n = if nat_lt n (2 ^ 31) then pos n else negsuc (2 ^ 32 - 1 - n)
 -- a number of 32 bits as a distance from the first byte of the text
 abbrev pub from_text : ℕ → ℤ
 from_text n = if nat_lt n TEXT_ADDRESS then negsuc (TEXT_ADDRESS - 1 - n) else pos (n - TEXT_ADDRESS)
+
+-- each byte by both its digits, after a blank
+unfoldable pub bytes_text : List ℕ → List ℕ
+bytes_text bytes = flat_map (λ b. codes " " ++ hex2 b) bytes

@@ -1,6 +1,6 @@
 //! Numbers in hexadecimal.
 
-ghost use Rattle.std.specs.Prelude.{◌≡◌, ◌+◌, ◌++◌, ◌∷◌, [], ◌≤◌, ◌<◌, ◌/◌, ◌%◌, ◌^◌, length, pos};
+ghost use Rattle.std.specs.Prelude.{◌≡◌, ◌+◌, ◌*◌, ◌++◌, ◌∷◌, [], ◌≤◌, ◌<◌, ◌/◌, ◌%◌, ◌^◌, length, pos};
 ghost use Rattle.run_trace.specs.Text.{hex_digit, hex2, hex4, hex8};
 ghost use Rattle.ia32_text.specs.Numbers as spec;
 ghost use Rattle.ia32_text.specs.Arguments.{by_label};
@@ -27,6 +27,18 @@ pub fn two_digits(n: u8, line: &mut Line)
     ensures len { length line.new.items ≡ length line.old.items + 2 }
 {
     add(&hex2(n), line);
+}
+
+/// Both digits of each byte, after a blank.
+pub fn add_bytes(bytes: &[u8], line: &mut Line)
+    requires { length line.old.items + 3 * length bytes.now ≤ 300 }
+    ensures text { line.new.items ≡ line.old.items ++ spec.bytes_text bytes.now }
+    ensures len { length line.new.items ≡ length line.old.items + 3 * length bytes.now }
+{
+    for byte in bytes {
+        add(b" ", line);
+        two_digits(*byte, line);
+    }
 }
 
 /// All four digits.
