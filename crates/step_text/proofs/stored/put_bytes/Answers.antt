@@ -1,7 +1,8 @@
 use Rattle.std.proofs.Common.{◌++◌, ℕ, List, length, take, get_or, ap, sym, ◌∙◌, arith}
 use Rattle.run_trace.specs.Text.{hex2}
 use Rattle.step_text.specs.Stored.{digits_of}
-use Rattle.step_text.proofs.Pieces.{no_bytes, more_bytes, two_pieces}
+use Rattle.ia32_text.proofs.LinePieces.{two_pieces}
+use Rattle.step_text.proofs.Pieces.{no_bytes, more_bytes}
 use Rattle.step_text.proofs.stored.put_bytes.Goals as goal
 
 pub loop-byte-init : goal.loop-byte-init

@@ -2,7 +2,7 @@ use Rattle.std.proofs.Common.{ℕ, List, ◌++◌}
 use Rattle.std.specs.Prelude.{codes}
 use Rattle.run_trace.specs.Text.{hex8}
 use Rattle.step_text.specs.Stored.{digits_of}
-use Rattle.step_text.proofs.Pieces.{four_pieces}
+use Rattle.ia32_text.proofs.LinePieces.{four_pieces}
 use Rattle.step_text.proofs.stored.put_range.Goals as goal
 
 pub returns-clause-text : goal.returns-clause-text
