@@ -32,7 +32,7 @@ pub fn decode_joined(front: &[u8], back: &[u8]) -> Decoded
     found
 }
 
-/// The same, where the answer is put into its place.
+/// What bytes begin with that lie in two pieces, put into the place that the caller has for it.
 #[inline(never)]
 pub fn decode_joined_into(front: &[u8], back: &[u8], found: &mut Decoded)
     requires few { length front.now + length back.now ≤ 32 }

@@ -91,7 +91,7 @@ fn is_served<S: Shadows>(
     }
 }
 
-/// The same of the page's entry.
+/// What is kept of the page serves: its entry is looked up.
 #[inline(always)]
 fn is_page_served<S: Shadows>(shadows: &S, ram: &Ram, side: Side, wp: bool, page: u32) -> bool
     requires stands { ∥ S.stands shadows.now ram.now ∥₁ }

@@ -149,7 +149,7 @@ pub fn fill_used<S: Shadows + Drop>(
     settle_used(running, pool, ram, state, count);
 }
 
-/// The same where there may be something to settle.
+/// What a step left of its translations is kept, or nothing, where there may be something to settle.
 #[inline(never)]
 fn settle_used<S: Shadows + Drop>(
     running: &mut Running<S>,
