@@ -1,5 +1,5 @@
 -- How the parts of a fetch make the whole.
-use Rattle.std.proofs.Common.{◌≡◌, ℕ, ◌-◌, ◌++◌, Bool, true, false, List, [], None, Ok, Err, refl, sym, ap, ◌∙◌}
+use Rattle.std.proofs.Common.{◌≡◌, ℕ, ◌-◌, ◌++◌, Bool, true, false, List, [], None, Ok, Err, sym, ap, ◌∙◌}
 use Rattle.ia32_types.specs.declared.insn.Insn.{Insn}
 use Rattle.ia32_decode.specs.declared.answer.Decoded.{Decoded}
 use Rattle.ia32_decode.specs.declared.answer.Decoded.TheVariants as begins

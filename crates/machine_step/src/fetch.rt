@@ -12,7 +12,9 @@ ghost use Rattle.machine_model.specs.UsedPages.{Uses, AtRefusal};
 ghost use Rattle.machine_step.specs.Fetches.{GivesAs, found_by};
 
 use arrayvec::ArrayVec;
-use ia32_decode::{Bytes, Decoded, LONGEST, append, decode, decode_joined, front_len, next_page};
+use ia32_decode::{
+    Bytes, Decoded, LONGEST, append, decode, decode_into, decode_joined_into, front_len, next_page,
+};
 use ia32_types::Stop;
 use machine_model::works_use;
 use paging::Touch;
@@ -75,16 +77,14 @@ fn fetch_pages<M: StepMemory>(
 {
     let front = front_len(at);
     fetch_page(mem, user, at, front)?;
-    match decode_page(mem, at, front) {
-        Decoded::Insn(insn, len) => {
+    decode_page(mem, at, front, found);
+    match found {
+        Decoded::Insn(_, len) => {
+            let len = *len;
             mem.own_front(at, u32::from(len));
-            *found = Decoded::Insn(insn, len);
             Ok(())
         }
-        Decoded::Outside => {
-            *found = Decoded::Outside;
-            Ok(())
-        }
+        Decoded::Outside => Ok(()),
         Decoded::Short => match next_page(at) {
             None => Err(Refusal::Stop(Stop::WrapAccess)),
             Some(next) => match fetch_on(mem, user, at, next) {
@@ -146,30 +146,32 @@ fn fetch_page<M: StepMemory>(mem: &mut M, user: bool, at: u32, len: u32) -> Resu
 }
 
 // What the bytes of a page begin with, from an address on.
-fn decode_page<M: StepMemory>(mem: &M, at: u32, len: u32) -> Decoded
+fn decode_page<M: StepMemory>(mem: &M, at: u32, len: u32, found: &mut Decoded)
     requires found { HasEntry (M.space mem.now).set at }
     requires few { len ≤ 11 }
     requires one { at % 4096 + len ≤ 4096 }
-    ensures exact { result ≡ decoded (bytes_from (M.space mem.now) at len) }
-    ensures spelled { IsSpelled result }
+    ensures exact { found.new ≡ decoded (bytes_from (M.space mem.now) at len) }
+    ensures spelled { IsSpelled found.new }
 {
-    let found = mem.bytes(at, len);
-    decode_pieces(found.text, found.ram)
+    let bytes = mem.bytes(at, len);
+    decode_pieces(bytes.text, bytes.ram, found);
 }
 
 // What bytes begin with that lie in two pieces, of which one is mostly empty.
-fn decode_pieces(front: &[u8], back: &[u8]) -> Decoded
+fn decode_pieces(front: &[u8], back: &[u8], found: &mut Decoded)
     requires few { length front.now + length back.now ≤ 11 }
-    ensures exact { result ≡ decoded (front.now ++ back.now) }
-    ensures spelled { IsSpelled result }
+    ensures exact { found.new ≡ decoded (front.now ++ back.now) }
+    ensures spelled { IsSpelled found.new }
 {
     if front.is_empty() {
-        return decode(back);
+        decode_into(back, found);
+        return;
     }
     if back.is_empty() {
-        return decode(front);
+        decode_into(front, found);
+        return;
     }
-    decode_joined(front, back)
+    decode_joined_into(front, back, found);
 }
 
 // Puts the bytes of a page, from an address on, after others.
