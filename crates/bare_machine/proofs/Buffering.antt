@@ -103,7 +103,8 @@ went_count keeping s b mid now (Went report new) is to =
 went_count keeping s b mid now (Halts stop) is to = absurd cc
 
 -- each such step is counted
-pub kept_counts : (keeping : Keeps) (s : Setting) (b mid : State) (now : Report) → kept_step keeping s b ≡ Went now mid → mid.step ≡ b.step + 1
+pub kept_counts : (keeping : Keeps) (s : Setting) (b mid : State) (now : Report) → kept_step keeping s b ≡ Went now mid
+    → mid.step ≡ b.step + 1
 kept_counts keeping s b mid now to = went_count keeping s b mid now (step_of s b b.set) refl to
 
 went_on : (keeping : Keeps) (s : Setting) (k : ℕ) (b mid : State) (now : Report) → kept_step keeping s b ≡ Went now mid

@@ -37,7 +37,8 @@ loop-machine-preserved g c = record {
       (whats c.in-Ok.seen) x (state_of e c.step.new.machine)) c.loop-machine.invariant.goes_on.exact (c.in-Ok.ensures.comes image).step) in
       let rests =
       subst (λ (f : ℕ). Rests (bare image c.args.script.now.list f) (state_of e c.step.new.machine) goes.whole
-      (state_of e c.rest.new.machine)) (c.in-Ok.ensures.goes_on.frames ∙ c.loop-machine.invariant.goes_on.frames) (c.rest.ensures.rests image
+      (state_of e c.rest.new.machine)) (c.in-Ok.ensures.goes_on.frames
+      ∙ c.loop-machine.invariant.goes_on.frames) (c.rest.ensures.rests image
       goes.whole goes.part) in
       going_on (bare image c.args.script.now.list c.args.machine.now.frames) exact (state_of e c.args.machine.now) (state_of e m)
       (state_of e c.step.new.machine) (state_of e c.rest.new.machine) (whats c.in-Ok.seen) (g.O.Sink.taken c.args.out.now)
@@ -53,7 +54,8 @@ loop-machine-preserved g c = record {
       (c.in-Ok.ensures.comes image).kept in
       let rests =
       subst (λ (f : ℕ). KeptRests g.C.Cache.keeping (bare image c.args.script.now.list f) (state_of e c.step.new.machine)
-      (state_of e c.rest.new.machine)) (c.in-Ok.ensures.goes_on.frames ∙ c.loop-machine.invariant.goes_on.frames) (c.rest.ensures.kept image) in
+      (state_of e c.rest.new.machine)) (c.in-Ok.ensures.goes_on.frames
+      ∙ c.loop-machine.invariant.goes_on.frames) (c.rest.ensures.kept image) in
       kept_going_on g.C.Cache.keeping s (state_of e c.args.machine.now) (state_of e m) (state_of e c.step.new.machine)
       (state_of e c.rest.new.machine) (whats c.in-Ok.seen) (g.O.Sink.taken c.args.out.now) (g.O.Sink.taken c.loop-machine.out)
       (g.O.Sink.taken c.put_seen.new.out)
