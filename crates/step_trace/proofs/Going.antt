@@ -1,193 +1,146 @@
 -- Steps with their lines, a step at a time.
-use Rattle.std.proofs.Common.{◌≡◌, ℕ, ◌<◌, ◌≤◌, Bool, List, [], ◌∷◌, ◌++◌, Option, Ok, refl, sym, ap, subst, ◌∙◌, append_assoc, arith}
+use Rattle.std.proofs.Common.{◌≡◌, ℕ, suc, ◌-◌, ◌<◌, ◌≤◌, List, [], ◌∷◌, ◌++◌, Option, Ok, refl, sym, ap, ◌∙◌, append_assoc, arith}
 use Rattle.std.proofs.lemmas.List.{append-nil}
 use Rattle.pv_io.specs.Sink.{Appends, AppendsFront}
-use Rattle.pv_io.proofs.Pieces.{appends_both, front_of}
+use Rattle.pv_io.proofs.Pieces.{appends_both, appends_none, front_of}
 use Rattle.ia32_types.specs.declared.stop.Stop.{Stop}
 use Rattle.run_trace.specs.declared.pause.Pause.TheVariants as pause
-use Rattle.run_trace.specs.declared.items.End.{End}
 use Rattle.run_trace.specs.declared.items.End.TheVariants.{Bound, Stopped}
 use Rattle.run_trace.specs.Text.{lines_of, end_line}
 use Rattle.look_words.specs.Words.{Only}
 use Rattle.machine_model.specs.State.{Setting, State}
+use Rattle.machine_model.specs.Step as steps
 use Rattle.machine_model.specs.Step.{Report, Went, Halts, step_of}
-use Rattle.machine_model.specs.Run.{Set, Steps, stopping, trace_of, with_set}
-use Rattle.machine_model.proofs.Ending.{each_ends}
-use Rattle.machine_model.proofs.Counted.{counted_by}
-use Rattle.bare_machine.specs.Machine.{Passes}
-use Rattle.bare_machine.proofs.Runs.{part_allowed, same_step, steps_on, steps_join}
-use Rattle.step_trace.specs.Lines.{line_if_printed, stop_line, lines_of_stop}
-use Rattle.step_trace.specs.Traces.{lines_by, trace_text, Traces}
-use Rattle.step_trace.specs.Answers.{WentOn, IsCut, Within, AtStop, StepPuts, HasPut, PutFront, PausesWith}
-use Rattle.step_trace.proofs.Quiet.{lines_by_join, lines_by_one, same_line, quiet}
+use Rattle.machine_model.specs.Run.{trace_of}
+use Rattle.machine_model.proofs.Texts.{lines_join}
+use Rattle.bare_mem.specs.Keeping.{Keeps}
+use Rattle.bare_machine.specs.Buffered.{kept_by, kept_step, KeptSteps}
+use Rattle.bare_machine.proofs.Buffering.{kept_counts, never_back}
+use Rattle.step_trace.specs.Lines.{line_if_printed, stop_line}
+use Rattle.step_trace.specs.Traces.{Trace, behind_lines, after_lines, kept_trace, trace_to}
+use Rattle.step_trace.specs.Answers.{WentOn, IsCut, Within, AtStop, StepPuts, HasPut, HasEnded, PausesWith}
+use Rattle.step_trace.proofs.Quiet.{unprinted}
 
--- the lines of one step more
-lines_on : (m : Setting) (from : ℕ) (only : Only) (old now new : State) (whole left_then : Set) (sets : List Set)
-    (reports : List Report) (report : Report)
-    → Steps m old sets reports (with_set now whole) → step_of m now now.set ≡ Went report (with_set new left_then)
-    → lines_by m from only old (sets ++ now.set ∷ []) ≡ lines_by m from only old sets
-    ++ (line_if_printed m from only now new ++ lines_of report.items)
-lines_on m from only old now new whole left_then sets reports report steps went =
-    lines_by_join m from only old (with_set now whole) sets (now.set ∷ []) reports steps
-    ∙ ap (λ (l : List ℕ). lines_by m from only old sets ++ l)
-    (lines_by_one m from only (with_set now whole) (with_set new left_then) now.set [] report (same_step m now whole now.set ∙ went)
-    ∙ (append-nil (line_if_printed m from only now (with_set new left_then) ++ lines_of report.items)
-    ∙ ap (λ (l : List ℕ). l ++ lines_of report.items) (same_line m from only now new left_then)))
+-- ---- a trace from a state
 
-pub steps_more : (m : Setting) (from : ℕ) (only : Only) (old now new : State) (a b : Option (List ℕ)) (report : Report) (left_then : Set)
-    → (h : HasPut m from only old now a b)
-    → step_of m now now.set ≡ Went report (with_set new left_then)
-    → Steps m old (h.sets ++ now.set ∷ []) (h.reports ++ report ∷ []) (with_set new left_then)
-steps_more m from only old now new a b report left_then h went =
-    steps_on m old (with_set now h.whole) (with_set new left_then) h.sets now.set h.reports report h.steps
-    (part_allowed m now h.whole now.set h.part)
-    (same_step m now h.whole now.set ∙ went)
-
--- one step went
-pub went_on : (m : Setting) (from : ℕ) (only : Only) (old now new : State) (a b c : Option (List ℕ)) → HasPut m from only old now a b
-    → WentOn m from only now new b c → HasPut m from only old new a c
-went_on m from only old now new a b c h w = record {
-  sets = h.sets ++ now.set ∷ [];
-  reports = h.reports ++ w.report ∷ [];
-  whole = w.whole;
-  steps = steps_more m from only old now new a b w.report w.whole h w.went;
-  part = w.part;
-  text = subst (Appends a c) (sym (lines_on m from only old now new h.whole w.whole h.sets h.reports w.report h.steps w.went))
-      (appends_both a b c _ _ h.text w.text);
-}
-
--- ---- where it ends
-
--- some steps that led to a state are those of a run, whose trace begins with their lines
-pub record Extends (m : Setting) (n from : ℕ) (only : Only) (old : State) (front : List ℕ) : Type 0 where
-  pub text : List ℕ
-  pub count : ℕ
-  pub end : End
-  pub traces : Traces m n from only old text count end
-  pub rest : List ℕ
-  pub whole : text ≡ front ++ rest
-
-pub extended : (m : Setting) (n from : ℕ) (only : Only) (old mid : State) (sets : List Set) (reports : List Report)
-    → Steps m old sets reports mid → mid.step ≤ n
-    → Extends m n from only old (lines_by m from only old sets)
-unfolding trace_text
-extended m n from only old mid sets reports steps le =
-    let e = each_ends m n mid le in
-    let stopped = lines_of_stop m from e.last (stopping m n e.last e.end e.run.ends) in
-    let last = end_line e.last.step e.end in
-    record {
-      text = lines_by m from only old (sets ++ e.sets) ++ stopped ++ last;
-      count = e.last.step;
-      end = e.end;
-      traces = record {
-        sets = sets ++ e.sets;
-        reports = reports ++ e.reports;
-        last = e.last;
-        run = record { steps = steps_join m old mid e.last sets e.sets reports e.reports steps e.run.steps; ends = e.run.ends };
-        count_is = refl;
-        text_is = refl;
-      };
-      rest = lines_by m from only mid e.sets ++ (stopped ++ last);
-      whole =
-          append_assoc (lines_by m from only old (sets ++ e.sets)) stopped last
-          ∙ (ap (λ (l : List ℕ). l ++ (stopped ++ last)) (lines_by_join m from only old mid sets e.sets reports steps)
-          ∙ append_assoc (lines_by m from only old sets) (lines_by m from only mid e.sets) (stopped ++ last));
-    }
-
--- a front of the lines of some steps
-pub front_put : (m : Setting) (n from : ℕ) (only : Only) (old : State) (front : List ℕ) (a b : Option (List ℕ))
-    → Extends m n from only old front → AppendsFront a b front → PutFront m n from only old a b
-front_put m n from only old front a b e q = record {
-  text = e.text;
-  count = e.count;
-  end = e.end;
-  traces = e.traces;
-  front = record {
-    front = q.front;
-    rest = q.rest ++ e.rest;
-    whole = sym (append_assoc q.front q.rest e.rest) ∙ (ap (λ (l : List ℕ). l ++ e.rest) q.whole ∙ sym e.whole);
-    taken = q.taken;
-  };
-}
-
--- the run that ends at a stop
-pub stopped_traces : (m : Setting) (n from : ℕ) (only : Only) (old now : State) (a b : Option (List ℕ)) (stop : Stop)
-    → (h : HasPut m from only old now a b) → now.step < n
-    → step_of m now now.set ≡ Halts stop
-    → Traces m n from only old (lines_by m from only old h.sets ++ stop_line m from now ++ end_line now.step (Stopped stop))
-    now.step (Stopped stop)
-unfolding trace_text
-stopped_traces m n from only old now a b stop h below halts = record {
-  sets = h.sets;
-  reports = h.reports;
-  last = with_set now h.whole;
-  run = record {
-    steps = h.steps;
-    ends = (
-      below,
-      record {
-        set = now.set;
-        allowed = part_allowed m now h.whole now.set h.part;
-        halts = same_step m now h.whole now.set ∙ halts;
-      },
-    );
-  };
-  count_is = refl;
-  text_is = refl;
-}
-
-pub bound_traces : (m : Setting) (n from : ℕ) (only : Only) (old now : State) (a b : Option (List ℕ))
-    → (h : HasPut m from only old now a b) → now.step ≡ n
-    → Traces m n from only old (lines_by m from only old h.sets ++ [] ++ end_line now.step Bound) now.step Bound
-unfolding trace_text
-bound_traces m n from only old now a b h is = record {
-  sets = h.sets;
-  reports = h.reports;
-  last = with_set now h.whole;
-  run = record { steps = h.steps; ends = is };
-  count_is = refl;
-  text_is = refl;
-}
+-- a step that goes
+pub trace_went : (keeping : Keeps) (m : Setting) (n from : ℕ) (only : Only) (b new : State) (report : Report)
+    → kept_step keeping m b ≡ Went report new → b.step < n
+    → trace_to keeping m n from only b
+    ≡ behind_lines (line_if_printed m from only b new ++ lines_of report.items) (trace_to keeping m n from only new)
+unfolding kept_trace
+trace_went keeping m n from only b new report went below =
+    let one = kept_counts keeping m b new report went in
+    let left : n - b.step ≡ suc (n - new.step) = omega (arith, one, below) in
+    ap (λ (k : ℕ). kept_trace keeping m from only k b) left
+    ∙ ap (λ (r : steps.Result). after_lines m from only b r (λ mid. kept_trace keeping m from only (n - new.step) mid)) went
 
 -- a step that stops
-pub stops_there : (m : Setting) (n from : ℕ) (only : Only) (old now new : State) (a b c : Option (List ℕ)) (stop : Stop)
-    → HasPut m from only old now a b
-    → StepPuts m from only now new b c (Ok (pause.Stopped stop)) → now.step < n
-    → PausesWith m n from only old new a c (Ok (pause.Stopped stop))
-stops_there m n from only old now new a b c stop h s below =
-    (record { last = now; between = b; before = h; below = below; count = s.1; line = s.2 }, s.0)
+pub trace_stops : (keeping : Keeps) (m : Setting) (n from : ℕ) (only : Only) (b : State) (stop : Stop) → step_of m b b.set ≡ Halts stop
+    → b.step < n
+    → trace_to keeping m n from only b
+    ≡ record { text = stop_line m from b ++ end_line b.step (Stopped stop); count = b.step; end = Stopped stop }
+unfolding kept_trace
+trace_stops keeping m n from only b stop halts below =
+    let left : n - b.step ≡ suc (n - b.step - 1) = omega (arith, below) in
+    ap (λ (k : ℕ). kept_trace keeping m from only k b) left
+    ∙ ap (λ (r : steps.Result). after_lines m from only b (kept_by keeping b.set r)
+    (λ mid. kept_trace keeping m from only (n - b.step - 1) mid)) halts
+
+-- no step is left
+pub trace_ends : (keeping : Keeps) (m : Setting) (n from : ℕ) (only : Only) (b : State) → b.step ≡ n
+    → trace_to keeping m n from only b ≡ record { text = end_line b.step Bound; count = b.step; end = Bound }
+unfolding kept_trace
+trace_ends keeping m n from only b at =
+    let none : n - b.step ≡ 0 = omega (arith, at) in
+    ap (λ (k : ℕ). kept_trace keeping m from only k b) none
+
+-- ---- lines before it
+
+behind_both : (first next : List ℕ) (t : Trace) → behind_lines first (behind_lines next t) ≡ behind_lines (first ++ next) t
+behind_both first next t = ap (λ (l : List ℕ). record { text = l; count = t.count; end = t.end }) (sym (append_assoc first next t.text))
+
+-- more lines were put
+pub put_on : (whole rest next : Trace) (lines : List ℕ) (a b c : Option (List ℕ)) → HasPut whole rest a b → rest ≡ behind_lines lines next
+    → Appends b c lines → HasPut whole next a c
+put_on whole rest next lines a b c h is put = record {
+  lines = h.lines ++ lines;
+  whole_is = h.whole_is ∙ (ap (λ (t : Trace). behind_lines h.lines t) is ∙ behind_both h.lines lines next);
+  text = appends_both a b c h.lines lines h.text put;
+}
+
+-- nothing was put yet
+pub put_none : (whole : Trace) (a : Option (List ℕ)) → HasPut whole whole a a
+put_none whole a = record { lines = []; whole_is = refl; text = appends_none a }
+
+-- a front of what comes next was put
+pub put_front : (whole rest : Trace) (piece after : List ℕ) (a b c : Option (List ℕ)) → HasPut whole rest a b → rest.text ≡ piece ++ after
+    → AppendsFront b c piece → AppendsFront a c whole.text
+put_front whole rest piece after a b c h is put =
+    front_of a b c h.lines piece after whole.text h.text put
+    (ap (λ (t : Trace). t.text) h.whole_is ∙ ap (λ (l : List ℕ). h.lines ++ l) is)
+
+-- ---- steps
+
+-- one step went
+pub went_on : (keeping : Keeps) (m : Setting) (n from : ℕ) (only : Only) (whole : Trace) (now new : State) (a b c : Option (List ℕ))
+    → HasPut whole (trace_to keeping m n from only now) a b → WentOn keeping m from only now new b c → now.step < n
+    → HasPut whole (trace_to keeping m n from only new) a c
+went_on keeping m n from only whole now new a b c h w below =
+    put_on whole _ (trace_to keeping m n from only new) (line_if_printed m from only now new ++ lines_of (w.report).items) a b c h
+    (trace_went keeping m n from only now new w.report w.went below) w.text
+
+-- a step that stops
+pub stops_there : (keeping : Keeps) (m : Setting) (n from : ℕ) (only : Only) (whole : Trace) (now new : State) (a b c : Option (List ℕ))
+    (stop : Stop)
+    → HasPut whole (trace_to keeping m n from only now) a b → StepPuts keeping m from only now new b c (Ok (pause.Stopped stop))
+    → now.step < n → HasEnded whole new.step (Stopped stop) a c
+stops_there keeping m n from only whole now new a b c stop h s below =
+    let line = stop_line m from now in
+    record {
+      lines = h.lines ++ line;
+      whole_is =
+          h.whole_is
+          ∙ (ap (λ (t : Trace). behind_lines h.lines t) (trace_stops keeping m n from only now stop s.0 below)
+          ∙ (ap (λ (l : List ℕ). record { text = l; count = now.step; end = Stopped stop })
+          (sym (append_assoc h.lines line (end_line now.step (Stopped stop))))
+          ∙ ap (λ (k : ℕ). record { text = (h.lines ++ line) ++ end_line k (Stopped stop); count = k; end = Stopped stop }) (sym s.1)));
+      text = appends_both a b c h.lines line h.text s.2;
+    }
+
+-- the last step is done
+pub ends_there : (keeping : Keeps) (m : Setting) (n from : ℕ) (only : Only) (whole : Trace) (now : State) (a b : Option (List ℕ))
+    → HasPut whole (trace_to keeping m n from only now) a b → now.step ≡ n → HasEnded whole now.step Bound a b
+ends_there keeping m n from only whole now a b h at = record {
+  lines = h.lines;
+  whole_is = h.whole_is ∙ ap (λ (t : Trace). behind_lines h.lines t) (trace_ends keeping m n from only now at);
+  text = h.text;
+}
 
 -- a step whose lines were cut
-pub cut_there : (m : Setting) (n from : ℕ) (only : Only) (old now new : State) (a b c : Option (List ℕ)) → HasPut m from only old now a b
-    → IsCut m from only now new b c → now.step < n → PutFront m n from only old a c
-cut_there m n from only old now new a b c h (Within report whole went part q) below =
-    let steps = steps_more m from only old now new a b report whole h went in
-    let count = counted_by m now (with_set new whole) now.set report went in
-    let e = extended m n from only old (with_set new whole) (h.sets ++ now.set ∷ []) (h.reports ++ report ∷ []) steps
-    (omega (arith, count, below)) in
-    front_put m n from only old (lines_by m from only old (h.sets ++ now.set ∷ [])) a c e
-    (front_of a b c (lines_by m from only old h.sets) (line_if_printed m from only now new ++ lines_of report.items) [] _ h.text q
-    (lines_on m from only old now new h.whole whole h.sets h.reports report h.steps went
-    ∙ ap (λ (l : List ℕ). lines_by m from only old h.sets ++ l)
-    (sym (append-nil (line_if_printed m from only now new ++ lines_of report.items)))))
-cut_there m n from only old now new a b c h (AtStop stop halts q) below = record {
-  text = lines_by m from only old h.sets ++ stop_line m from now ++ end_line now.step (Stopped stop);
-  count = now.step;
-  end = Stopped stop;
-  traces = stopped_traces m n from only old now a b stop h below halts;
-  front = front_of a b c (lines_by m from only old h.sets) (stop_line m from now) (end_line now.step (Stopped stop)) _ h.text q
-      (append_assoc (lines_by m from only old h.sets) (stop_line m from now) (end_line now.step (Stopped stop)));
-}
+pub cut_there : (keeping : Keeps) (m : Setting) (n from : ℕ) (only : Only) (whole : Trace) (now new : State) (a b c : Option (List ℕ))
+    → HasPut whole (trace_to keeping m n from only now) a b → IsCut keeping m from only now new b c → now.step < n
+    → AppendsFront a c whole.text
+cut_there keeping m n from only whole now new a b c h (Within report went q) below =
+    put_front whole _ (line_if_printed m from only now new ++ lines_of report.items) (trace_to keeping m n from only new).text a b c h
+    (ap (λ (t : Trace). t.text) (trace_went keeping m n from only now new report went below)) q
+cut_there keeping m n from only whole now new a b c h (AtStop stop halts q) below =
+    put_front whole _ (stop_line m from now) (end_line now.step (Stopped stop)) a b c h
+    (ap (λ (t : Trace). t.text) (trace_stops keeping m n from only now stop halts below)) q
 
--- a slice before the first step that is printed
-pub from_slice : (m : Setting) (exact : Bool) (from : ℕ) (only : Only) (old new : State) (a b : Option (List ℕ)) (reports : List Report)
-    → Passes m exact old reports new → new.step ≤ from
-    → Appends a b (lines_of (trace_of reports)) → HasPut m from only old new a b
-from_slice m exact from only old new a b reports p le put = record {
-  sets = p.sets;
-  reports = reports;
-  whole = p.whole;
-  steps = p.steps;
-  part = p.part;
-  text = subst (Appends a b) (sym (quiet m from only old (with_set new p.whole) p.sets reports p.steps le)) put;
-}
+-- steps before the first that is printed
+pub quiet : (keeping : Keeps) (m : Setting) (n from : ℕ) (only : Only) (old last : State) (reports : List Report)
+    → KeptSteps keeping m old reports last → last.step ≤ from → last.step ≤ n
+    → trace_to keeping m n from only old ≡ behind_lines (lines_of (trace_of reports)) (trace_to keeping m n from only last)
+unfolding KeptSteps
+quiet keeping m n from only old last [] h early le = sym (ap (λ (b : State). trace_to keeping m n from only b) h)
+quiet keeping m n from only old last (now ∷ later) h early le =
+    let one = kept_counts keeping m old h.0 now h.1 in
+    let more = never_back keeping m h.0 last later h.2 in
+    let line : line_if_printed m from only old h.0 ≡ [] = unprinted m from only old h.0 (omega (arith, one, more, early)) in
+    let rest = trace_to keeping m n from only last in
+    trace_went keeping m n from only old h.0 now h.1 (omega (arith, one, more, le))
+    ∙ (ap (λ (l : List ℕ). behind_lines (l ++ lines_of now.items) (trace_to keeping m n from only h.0)) line
+    ∙ (ap (λ (t : Trace). behind_lines (lines_of now.items) t) (quiet keeping m n from only h.0 last later h.2 early le)
+    ∙ (behind_both (lines_of now.items) (lines_of (trace_of later)) rest
+    ∙ ap (λ (l : List ℕ). behind_lines l rest) (sym (lines_join now.items (trace_of later))))))

@@ -4,3 +4,4 @@ pub mod Ends
 pub mod Found
 pub mod Denying
 pub mod Told
+pub mod OneRun

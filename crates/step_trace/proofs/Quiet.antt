@@ -1,27 +1,17 @@
--- The lines of several steps: of two parts one after the other, of steps of which none is printed, and of items alone.
-use Rattle.std.proofs.Common.{◌≡◌, ℕ, ◌<◌, ◌≤◌, nat_le, ◌&&◌, Bool, false, List, [], ◌∷◌, ◌++◌, map, refl, sym, ap, ◌∙◌, arith}
+-- The lines of steps: of one, of one that isn't printed, and of items alone.
+use Rattle.std.proofs.Common.{◌≡◌, ℕ, ◌<◌, nat_le, ◌&&◌, Bool, false, List, [], ◌∷◌, ◌++◌, map, refl, sym, ap, ◌∙◌}
 use Rattle.std.specs.List.{flat_map}
 use Rattle.std.proofs.lemmas.Bool.{lt-leb}
-use Rattle.std.proofs.lemmas.List.Concat.{flat_map-append}
 use Rattle.run_trace.specs.Text.{lines_of, end_line}
 use Rattle.look_words.specs.Words.{Only}
 use Rattle.machine_model.specs.State.{Setting, State}
 use Rattle.machine_model.specs.Step.{Report, Went, step_of}
-use Rattle.machine_model.specs.Run.{Set, Steps, trace_of, with_set}
+use Rattle.machine_model.specs.Run.{Set, trace_of, with_set}
 use Rattle.machine_model.specs.Taken.{Taken, steps_by}
-use Rattle.machine_model.proofs.Runs.{taken_first, taken_join, steps_are_taken}
-use Rattle.machine_model.proofs.Counted.{counted_by, steps_counted}
+use Rattle.machine_model.proofs.Runs.{taken_first, steps_are_taken}
 use Rattle.machine_model.proofs.Texts.{lines_join, text_is}
 use Rattle.step_trace.specs.Lines.{is_printed, line_if_printed, line_of, step_lines}
 use Rattle.step_trace.specs.Traces.{lines_by, WithoutLines}
-
--- some steps and then others
-pub lines_by_join : (m : Setting) (from : ℕ) (only : Only) (old mid : State) (sets more : List Set) (reports : List Report)
-    → Steps m old sets reports mid
-    → lines_by m from only old (sets ++ more) ≡ lines_by m from only old sets ++ lines_by m from only mid more
-lines_by_join m from only old mid sets more reports steps =
-    ap (λ (l : List Taken). flat_map (step_lines m from only) l) (taken_join m old mid sets more reports steps)
-    ∙ flat_map-append (step_lines m from only) (steps_by m old sets) (steps_by m mid more)
 
 -- one step
 pub lines_by_one : (m : Setting) (from : ℕ) (only : Only) (b after : State) (set : Set) (sets : List Set) (report : Report)
@@ -44,21 +34,6 @@ not_yet from k b lt = let f : nat_le from k ≡ false = lt-leb _ _ lt in rw f re
 pub unprinted : (m : Setting) (from : ℕ) (only : Only) (b after : State) → b.step < from → line_if_printed m from only b after ≡ []
 unfolding line_if_printed is_printed
 unprinted m from only b after lt = rw (not_yet from b.step _ lt) refl
-
-pub quiet : (m : Setting) (from : ℕ) (only : Only) (old new : State) (sets : List Set) (reports : List Report)
-    → Steps m old sets reports new → new.step ≤ from
-    → lines_by m from only old sets ≡ lines_of (trace_of reports)
-unfolding Steps
-quiet m from only old new [] reports steps le = sym (ap (λ (r : List Report). lines_of (trace_of r)) steps.0)
-quiet m from only old new (set ∷ sets) reports steps le =
-    let one = counted_by m old steps.0 set steps.1 steps.4 in
-    let more = steps_counted m steps.0 sets steps.2 new steps.5 in
-    let none = unprinted m from only (with_set old set) steps.0 (omega (arith, one, more, le)) in
-    let rest = quiet m from only steps.0 new sets steps.2 steps.5 le in
-    lines_by_one m from only old steps.0 set sets steps.1 steps.4
-    ∙ (ap (λ (l : List ℕ). l ++ lines_of (steps.1).items ++ lines_by m from only steps.0 sets) none
-    ∙ (ap (λ (l : List ℕ). lines_of (steps.1).items ++ l) rest
-    ∙ (sym (lines_join (steps.1).items (trace_of steps.2)) ∙ sym (ap (λ (r : List Report). lines_of (trace_of r)) steps.6))))
 
 -- ---- without the lines that are added
 

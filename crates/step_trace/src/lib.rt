@@ -11,5 +11,5 @@ mod stops;
 mod trace;
 mod wanted;
 
-pub use laws::{denials_tell, without_lines};
+pub use laws::{denials_tell, each_trace_is_of_its_run, without_lines};
 pub use trace::trace_steps;

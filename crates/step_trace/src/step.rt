@@ -40,7 +40,7 @@ pub fn step_on<C: Cache, O: Sink>(
     requires kept { IsKept machine.old.frames (state_of C.entries machine.old) }
     requires bound { machine.old.step < 2 ^ 40 }
     requires none { NoneComes script.now.list machine.old.step room.old.next }
-    ensures puts { (image : Image) → StepPuts (bare image script.now.list machine.old.frames) from (only_view only.now)
+    ensures puts { (image : Image) → StepPuts C.keeping (bare image script.now.list machine.old.frames) from (only_view only.now)
         (state_of C.entries machine.old) (state_of C.entries machine.new) (O.taken out.old) (O.taken out.new) result }
     ensures none { NoneComes script.now.list (machine.old.step + 1) room.new.next }
     ensures goes_on { IfReached result (GoesOn C.entries C.is_exact machine.old machine.new) }
@@ -78,7 +78,7 @@ fn printed_step<C: Cache, O: Sink>(
         (view_before (bare image script.now.list machine.old.frames) (state_of C.entries machine.old)) machine.old.step machine.old.cpu
         (activity_of (bare image script.now.list machine.old.frames) (state_of C.entries machine.old)) before.now }
     requires within { IsWithin machine.old.frames before.now }
-    ensures puts { (image : Image) → StepPuts (bare image script.now.list machine.old.frames) from (only_view only.now)
+    ensures puts { (image : Image) → StepPuts C.keeping (bare image script.now.list machine.old.frames) from (only_view only.now)
         (state_of C.entries machine.old) (state_of C.entries machine.new) (O.taken out.old) (O.taken out.new) result }
     ensures none { NoneComes script.now.list (machine.old.step + 1) room.new.next }
     ensures goes_on { IfReached result (GoesOn C.entries C.is_exact machine.old machine.new) }
@@ -128,7 +128,7 @@ fn unprinted_step<C: Cache, O: Sink>(
         ≡ activity_of (bare image script.now.list machine.old.frames) (state_of C.entries machine.old) }
     ensures puts { (image : Image) (only : Asked)
         → is_printed (bare image script.now.list machine.old.frames) from only (state_of C.entries machine.old) ≡ false
-        → StepPuts (bare image script.now.list machine.old.frames) from only
+        → StepPuts C.keeping (bare image script.now.list machine.old.frames) from only
         (state_of C.entries machine.old) (state_of C.entries machine.new) (O.taken out.old) (O.taken out.new) result }
     ensures none { NoneComes script.now.list (machine.old.step + 1) room.new.next }
     ensures goes_on { IfReached result (GoesOn C.entries C.is_exact machine.old machine.new) }

@@ -4,11 +4,11 @@ ghost use Rattle.std.specs.Prelude.{◌≡◌, ◌≤◌, ◌^◌, ℕ, List, Op
 ghost use Rattle.board.specs.ScriptForm.{is_script};
 ghost use Rattle.image_check.specs.Image.{Image};
 ghost use Rattle.pv_io.specs.Causes.{Rose};
-ghost use Rattle.machine_model.specs.State.{State};
 ghost use Rattle.bare_machine.specs.Machine.{state_of, IsKept};
 ghost use Rattle.bare_machine.specs.Settings.{bare};
 ghost use Rattle.look_words.specs.View.{only_view};
 ghost use Rattle.step_trace.specs.Answers.{HasPut, PausesWith};
+ghost use Rattle.step_trace.specs.Traces.{Trace, trace_to};
 
 use crate::step::step_on;
 use bare_machine::{Bare, StepRoom};
@@ -31,11 +31,10 @@ pub fn steps_on<C: Cache, O: Sink>(
     requires kept { IsKept machine.old.frames (state_of C.entries machine.old) }
     requires begun { machine.old.step ≤ n }
     requires bound { n ≤ 2 ^ 40 }
-    ensures pauses { (image : Image) (first : State) (told : Option (List ℕ))
-        → HasPut (bare image script.now.list machine.old.frames) from (only_view only.now) first
-        (state_of C.entries machine.old) told (O.taken out.old)
-        → PausesWith (bare image script.now.list machine.old.frames) n from (only_view only.now) first
-        (state_of C.entries machine.new) told (O.taken out.new) result }
+    ensures pauses { (image : Image) (whole : Trace) (told : Option (List ℕ))
+        → HasPut whole (trace_to C.keeping (bare image script.now.list machine.old.frames) n from (only_view only.now)
+        (state_of C.entries machine.old)) told (O.taken out.old)
+        → PausesWith whole machine.new.step told (O.taken out.new) result }
     ensures kept { OnOk result (O.faults out.new ≡ O.faults out.old) }
     ensures cause { OnErr result (Rose (O.faults out.old) (O.faults out.new)) }
 {

@@ -3,11 +3,11 @@
 ghost use Rattle.std.specs.Prelude.{◌≡◌, ◌≤◌, ◌^◌, ℕ, List, Option, true};
 ghost use Rattle.board.specs.ScriptForm.{is_script};
 ghost use Rattle.image_check.specs.Image.{Image};
-ghost use Rattle.machine_model.specs.State.{State};
 ghost use Rattle.bare_machine.specs.Machine.{state_of, IsKept};
 ghost use Rattle.bare_machine.specs.Settings.{bare};
 ghost use Rattle.look_words.specs.View.{only_view};
 ghost use Rattle.step_trace.specs.Answers.{HasPut, TraceAnswers, TracesAs};
+ghost use Rattle.step_trace.specs.Traces.{Trace, buffered_trace, trace_to};
 
 use crate::steps::steps_on;
 use bare_machine::{Bare, end_run};
@@ -20,8 +20,8 @@ use run_trace::{End, Ended, Pause, end_of};
 use std::alloc::Global;
 use xlate_buffer::{Buffer, Cache};
 
-/// Runs an image for at most `n` steps, and puts the text of its trace, with the lines of its steps from one on that are
-/// asked for.
+/// Runs an image for at most `n` steps as `run_bare` does, and puts the text of its trace, with the lines of its steps from one
+/// on that are asked for: that of `buffered_trace`, whose steps are those of `buffered_run`.
 pub fn trace_steps<O: Sink>(
     alloc: Global,
     image: &Checked,
@@ -35,7 +35,7 @@ pub fn trace_steps<O: Sink>(
     requires frames { (2048 ≤ frames) × (frames ≤ 16384) }
     requires script { is_script script.now.list ≡ true }
     requires bound { n ≤ 2 ^ 40 }
-    ensures { TraceAnswers image.now script.now.list frames n from (only_view only.now)
+    ensures { TraceAnswers image.now frames (buffered_trace image.now script.now.list frames n from (only_view only.now))
         (O.taken out.old) (O.taken out.new) (O.faults out.old) (O.faults out.new) result }
 {
     match Bare::start(alloc, image, frames, Buffer::new()) {
@@ -61,8 +61,8 @@ fn trace_on<C: Cache, O: Sink>(
     requires kept { IsKept machine.old.frames (state_of C.entries machine.old) }
     requires begun { machine.old.step ≡ 0 }
     requires bound { n ≤ 2 ^ 40 }
-    ensures { (image : Image) → TracesAs (bare image script.now.list machine.old.frames) n from (only_view only.now)
-        (state_of C.entries machine.old) (O.taken out.old) (O.taken out.new) (O.faults out.old) (O.faults out.new) result }
+    ensures { (image : Image) → TracesAs (trace_to C.keeping (bare image script.now.list machine.old.frames) n from (only_view only.now)
+        (state_of C.entries machine.old)) (O.taken out.old) (O.taken out.new) (O.faults out.old) (O.faults out.new) result }
 {
     let first = unlisted(from, n);
     match machine.slice(script, first, out) {
@@ -98,11 +98,10 @@ fn steps_to_end<C: Cache, O: Sink>(
     requires kept { IsKept machine.old.frames (state_of C.entries machine.old) }
     requires begun { machine.old.step ≤ n }
     requires bound { n ≤ 2 ^ 40 }
-    ensures { (image : Image) (first : State) (told : Option (List ℕ))
-        → HasPut (bare image script.now.list machine.old.frames) from (only_view only.now) first
-        (state_of C.entries machine.old) told (O.taken out.old)
-        → TracesAs (bare image script.now.list machine.old.frames) n from (only_view only.now) first told (O.taken out.new)
-        (O.faults out.old) (O.faults out.new) result }
+    ensures { (image : Image) (whole : Trace) (told : Option (List ℕ))
+        → HasPut whole (trace_to C.keeping (bare image script.now.list machine.old.frames) n from (only_view only.now)
+        (state_of C.entries machine.old)) told (O.taken out.old)
+        → TracesAs whole told (O.taken out.new) (O.faults out.old) (O.faults out.new) result }
 {
     match steps_on(machine, script, n, from, only, out) {
         Err(_) => Err(RunFault::Write),

@@ -54,9 +54,7 @@ returns-in-Ok-put_seen-clause-puts g c = λ image.
     (c.requires.found image) once.raised in
     record {
       report = once.report;
-      whole = once.whole;
-      went = once.went;
-      part = once.part;
+      went = once.kept;
       text = appends_both old mid new (line_if_printed m c.args.from (only_view c.args.only.now) b after) (lines_of (once.report).items)
           (subst (λ (l : List ℕ). Appends old mid l) same c.in-Ok-put_line.ensures.ok)
           (subst (λ (l : List Item). Appends mid new (lines_of l)) items c.in-Ok-put_seen.ensures.ok);
@@ -74,7 +72,7 @@ returns-in-Err-put_line-clause-puts g c = λ image.
     let after = state_of e c.step_once.new.self in
     let same = line_same m c.args.from (only_view c.args.only.now) b after c.args.before.now c.in-Ok.done.raised
     (c.requires.found image) once.raised in
-    Within once.report once.whole once.went once.part
+    Within once.report once.kept
     (front_of old old new [] (line_if_printed m c.args.from (only_view c.args.only.now) b after) (lines_of (once.report).items)
     _ (appends_none old)
     (subst (λ (l : List ℕ). AppendsFront old new l) same c.in-Err-put_line.ensures.failed) refl)
@@ -93,7 +91,7 @@ returns-in-Err-put_seen-clause-puts g c = λ image.
     let line = line_if_printed m c.args.from (only_view c.args.only.now) b after in
     let same = line_same m c.args.from (only_view c.args.only.now) b after c.args.before.now c.in-Ok.done.raised
     (c.requires.found image) once.raised in
-    Within once.report once.whole once.went once.part
+    Within once.report once.kept
     (front_of old mid new line (lines_of (once.report).items) [] _
     (subst (λ (l : List ℕ). Appends old mid l) same c.in-Ok-put_line.ensures.ok)
     (subst (λ (l : List Item). AppendsFront mid new (lines_of l)) items c.in-Err-put_seen.ensures.failed)

@@ -44,9 +44,7 @@ returns-in-Ok-put_seen-clause-puts g c = λ image only unprinted.
     (state_of g.C.Cache.entries c.step_once.new.self) unprinted in
     record {
       report = once.report;
-      whole = once.whole;
-      went = once.went;
-      part = once.part;
+      went = once.kept;
       text = subst (λ (l : List ℕ). Appends old new (l ++ lines_of (once.report).items)) (sym none)
           (subst (λ (l : List Item). Appends old new (lines_of l)) items c.in-Ok-put_seen.ensures.ok);
     }
@@ -60,7 +58,7 @@ returns-in-Err-put_seen-clause-puts g c = λ image only unprinted.
     let new = g.O.Sink.taken c.put_seen.new.out in
     let none = no_line m c.args.from only (state_of g.C.Cache.entries c.args.machine.now)
     (state_of g.C.Cache.entries c.step_once.new.self) unprinted in
-    Within once.report once.whole once.went once.part
+    Within once.report once.kept
     (subst (λ (l : List ℕ). AppendsFront old new (l ++ lines_of (once.report).items)) (sym none)
     (subst (λ (l : List Item). AppendsFront old new (lines_of l)) items c.in-Err-put_seen.ensures.failed))
 
