@@ -6,7 +6,6 @@ use Rattle.image_check.specs.Image.{Image}
 use Rattle.image_load.specs.Boot.{need}
 use Rattle.run_trace.specs.declared.items.End.{End}
 use Rattle.checkpoint.specs.declared.state.State.{State}
-use Rattle.bare_machine.specs.Settings.{bare}
 use Rattle.pv_build.specs.Lines.{too_small_line, place_line}
 use Rattle.pv_build.specs.Statuses.{status_of}
 use Rattle.pv_build.specs.Telling.{Says, HaltsAs, RefusesAs}
@@ -25,6 +24,7 @@ use Rattle.pv_tasks.proofs.Works.{IsEnd}
 use Rattle.pv_tasks.proofs.Deliveries.{says}
 use Rattle.look_words.specs.Words.{RunAsked, Aspect}
 use Rattle.pv_look.specs.Before.{ShowsEach, before_task}
+use Rattle.pv_look.specs.Onward.{watch_bare}
 use Rattle.pv_look.specs.Files.{HasState, HasNoState, ShowsFile, no_checkpoint, shown, state_in_text, file_task}
 
 -- a refusal without a cause in the files is not of a read
@@ -56,7 +56,7 @@ pub shows_run : (run : RunAsked) (steps : List ℕ) (of : Aspect) (o : Outside) 
     (end : End) (st : Status)
     → HasImage o.before.files run.image image → HasScript o.before.files run.script events → o.after.files ≡ o.before.files →
     o.after.completed ≡ o.before.completed
-    → need image ≤ run.frames → ShowsEach (bare image events run.frames) of steps text end
+    → need image ≤ run.frames → ShowsEach (watch_bare image events run.frames of) steps text end
     → Says text (status_of end) o.before.taken o.after.taken o.before.puts o.after.puts st → Means (before_task run steps of) o st
 shows_run run steps of o image events text end st has said same none fits shows says_it =
     says (before_task run steps of) o (ended end text) st (is_end end) refl

@@ -1,9 +1,10 @@
 -- The meaning of `steps`.
-use Rattle.std.proofs.Common.{inl, inr, ℕ, List, Option, Result, Ok, Err, refl, sym, ap, subst, ◌∙◌}
+use Rattle.std.proofs.Common.{◌≡◌, inl, inr, ℕ, List, Option, Result, Ok, Err, refl, sym, ap, subst, ◌∙◌}
 use Rattle.board.specs.Scripts.{Events}
 use Rattle.image_check.specs.Image.{Image}
 use Rattle.image_load.specs.declared.fault.RunFault.{RunFault}
 use Rattle.image_load.specs.declared.fault.RunFault.TheVariants as fault
+use Rattle.run_trace.specs.declared.items.End.{End}
 use Rattle.run_trace.specs.declared.items.Ended.{Ended}
 use Rattle.wedge_core.specs.Counts.{Counts}
 use Rattle.pv_build.specs.Lines.{too_small_line}
@@ -16,25 +17,30 @@ use Rattle.pv_tasks.proofs.RunMeanings.{RanAs, appends_on, front_on, rose_on, sa
 use Rattle.pv_tasks.proofs.Works.{IsTold, AreEnds, AreTold}
 use Rattle.look_words.specs.Words.{Only}
 use Rattle.step_trace.specs.Answers.{TraceAnswers}
+use Rattle.step_trace.specs.Traces.{Trace, buffered_trace}
 use Rattle.pv_look.specs.Stepping.{TracesBare}
 
 -- what a trace answered was reported
 pub ran_steps : (image : Image) (events : Events) (frames n from : ℕ) (only : Only) (old mid new : Option (List ℕ)) (before middle now : ℕ)
     (r : Result Ended RunFault) (c : Counts) (memory : List ℕ) (st : Status)
-    → TraceAnswers image events frames n from only old mid before middle r → ToldAs r mid new middle now st
+    → TraceAnswers image frames (buffered_trace image events frames n from only) old mid before middle r
+    → ToldAs r mid new middle now st
     → RanAs (RunsOn (TracesBare frames n from only image events) image frames) (around_of old new before now c c) memory st
 ran_steps image events frames n from only old mid new before middle now (Ok e) c memory st h told =
+    let t : Trace = buffered_trace image events frames n from only in
+    let end_is : e.end ≡ t.end = ap (λ (x : Ended). x.end) h.1.0 in
     inl (
-      ended e.end h.0,
-      Ran h.1.fits (record { text = h.0; count = e.steps; end = e.end; trace = h.1; comes = refl }),
-      Whole told.0 (appends_on old mid new h.0 told.1 h.2) (told.2 ∙ h.3),
+      ended e.end t.text,
+      Ran h.0 (ap (λ (x : End). ended x t.text) end_is),
+      Whole told.0 (appends_on old mid new t.text told.1 h.1.1) (told.2 ∙ h.1.2),
       λ end. refl,
     )
 ran_steps image events frames n from only old mid new before middle now (Err fault.Write) c memory st h told =
+    let t : Trace = buffered_trace image events frames n from only in
     inl (
-      ended h.2 h.0,
-      Ran h.3.fits (record { text = h.0; count = h.1; end = h.2; trace = h.3; comes = refl }),
-      Cut told.0 (front_on old mid new h.0 told.1 h.4) (rose_on before middle now told.2 h.5),
+      ended t.end t.text,
+      Ran h.0 refl,
+      Cut told.0 (front_on old mid new t.text told.1 h.1.0) (rose_on before middle now told.2 h.1.1),
       λ end. refl,
     )
 ran_steps image events frames n from only old mid new before middle now (Err (fault.TooSmall small)) c memory st h (inl said) =
@@ -50,7 +56,8 @@ ran_steps image events frames n from only old mid new before middle now (Err fau
     inr (told.0, told.1 ∙ h.0, refl, told.2 ∙ h.1)
 
 pub steps_end : (frames n from : ℕ) (only : Only) → AreEnds (TracesBare frames n from only)
-steps_end frames n from only image events w h = subst (λ (v : Outcome). HasEnded v.status) (sym h.comes) (has_ended h.end)
+steps_end frames n from only image events w h =
+    subst (λ (v : Outcome). HasEnded v.status) (sym h) (has_ended (buffered_trace image events frames n from only).end)
 
 pub steps_told : (frames n from : ℕ) (only : Only) → AreTold (TracesBare frames n from only)
-steps_told frames n from only image events w h = subst IsTold (sym h.comes) refl
+steps_told frames n from only image events w h = subst IsTold (sym h) refl

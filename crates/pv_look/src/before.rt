@@ -9,9 +9,9 @@ ghost use Rattle.pv_build.specs.Telling.{RefusesAs, Says};
 ghost use Rattle.pv_tasks.specs.Beside.{beside};
 ghost use Rattle.pv_tasks.specs.Faulting.{FaultsEnd};
 ghost use Rattle.pv_tasks.specs.Tasks.{Means, FaultCounts};
-ghost use Rattle.bare_machine.specs.Settings.{bare};
 ghost use Rattle.look_words.specs.View.{aspect_view, run_view, IsAspect, IsRun, AreSteps};
 ghost use Rattle.pv_look.specs.Before.{LookAs, ShowsEach, before_task, end_part};
+ghost use Rattle.pv_look.specs.Onward.{watch_bare};
 ghost use Rattle.pv_build.specs.Statuses.{status_of};
 ghost use Rattle.run_trace.specs.Text.{end_line};
 
@@ -50,7 +50,7 @@ fn look_at(
     requires steps { AreSteps steps.now }
     requires aspect { IsAspect aspect }
     ensures fits { IfOk result (λ sight. need found.now.image ≤ frames) }
-    ensures look { IfOk result (LookAs (bare found.now.image found.now.script.list frames) (aspect_view aspect) bound steps.now) }
+    ensures look { IfOk result (LookAs (watch_bare found.now.image found.now.script.list frames (aspect_view aspect)) bound steps.now) }
     ensures refused { IfErr result (RefusesAs (λ line. (frames < need found.now.image)
         × (line ≡ too_small_line (need found.now.image) frames))) }
 {
@@ -111,8 +111,8 @@ struct Shown {
     end: End,
 }
 
-/// After a stop the memory isn't what it was before the step: so another run goes to that step, and all that is shown is of that
-/// one.
+/// After a stop the memory isn't what it was before the step: so the run is made again up to that step, and all that is shown is
+/// of the second time.
 fn look_through(
     alloc: Global,
     found: &Runnable,
@@ -126,7 +126,7 @@ fn look_through(
     requires aspect { IsAspect aspect }
     ensures fits { IfOk result (λ shown. need found.now.image ≤ frames) }
     ensures shows { IfOk result (λ shown.
-        ShowsEach (bare found.now.image found.now.script.list frames) (aspect_view aspect) steps.now shown.text.items shown.end) }
+        ShowsEach (watch_bare found.now.image found.now.script.list frames (aspect_view aspect)) steps.now shown.text.items shown.end) }
     ensures refused { IfErr result (RefusesAs (λ line. (frames < need found.now.image)
         × (line ≡ too_small_line (need found.now.image) frames))) }
 {

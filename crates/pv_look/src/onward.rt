@@ -6,7 +6,7 @@ ghost use Rattle.image_check.specs.Image.{Image};
 ghost use Rattle.bare_machine.specs.Machine.{state_of, IsKept};
 ghost use Rattle.bare_machine.specs.Settings.{bare};
 ghost use Rattle.look_words.specs.View.{aspect_view, IsAspect};
-ghost use Rattle.pv_look.specs.Onward.{IfGoesOn, MomentAs, MomentsAs};
+ghost use Rattle.pv_look.specs.Onward.{IfGoesOn, MomentAs, MomentsAs, watch_of};
 
 use crate::moments::add_moment;
 use bare_machine::Bare;
@@ -31,7 +31,8 @@ fn add_next<C: Cache>(
     requires begun { machine.old.step ≤ 2 ^ 40 }
     requires bound { n ≤ 2 ^ 40 }
     requires aspect { IsAspect aspect }
-    ensures moment { (image : Image) → MomentAs (bare image script.now.list machine.old.frames) (aspect_view aspect) n
+    ensures moment { (image : Image) → MomentAs
+        (watch_of C.keeping (bare image script.now.list machine.old.frames) (aspect_view aspect)) n
         (state_of C.entries machine.old) (state_of C.entries machine.new) text.old.items text.new.items result }
     ensures kept { IfGoesOn result (IsKept machine.new.frames (state_of C.entries machine.new)) }
     ensures frames { IfGoesOn result (machine.new.frames ≡ machine.old.frames) }
@@ -66,7 +67,8 @@ pub fn add_moments<C: Cache>(
     requires begun { machine.old.step ≤ 2 ^ 40 }
     requires counts { (i : ℕ) → slice_index counts.now i ≤ 2 ^ 40 }
     requires aspect { IsAspect aspect }
-    ensures { (image : Image) → MomentsAs (bare image script.now.list machine.old.frames) (aspect_view aspect) bound counts.now
+    ensures { (image : Image) → MomentsAs
+        (watch_of C.keeping (bare image script.now.list machine.old.frames) (aspect_view aspect)) bound counts.now
         (state_of C.entries machine.old) (state_of C.entries machine.new) text.old.items text.new.items result }
 {
     for n in counts {

@@ -1,9 +1,9 @@
 use Rattle.std.proofs.Common.{◌≡◌, ℕ, ◌<◌, List, refl, subst}
 use Rattle.image_load.specs.Boot.{need}
 use Rattle.pv_build.specs.Lines.{too_small_line}
-use Rattle.bare_machine.specs.Settings.{bare}
 use Rattle.look_words.specs.View.{aspect_view, run_view}
 use Rattle.pv_look.specs.Before.{ShowsEach, before_task}
+use Rattle.pv_look.specs.Onward.{watch_bare}
 use Rattle.pv_tasks.proofs.Deliveries.{halts}
 use Rattle.pv_look.proofs.Shows.{no_read, shows_no_run, shows_too_small, shows_run}
 use Rattle.pv_look.proofs.before.before.Goals as goal
@@ -33,5 +33,5 @@ returns-clause-meaning g c = λ completed memory.
     shows_run run c.args.steps.now.items (aspect_view c.args.aspect) _ found.image found.script.list shown.text.items shown.end
     c.print_shown.result
     c.in-Ok.ensures.image c.in-Ok.ensures.script c.in-Ok.ensures.read.held refl c.in-Ok-look_through.ensures.fits
-    (subst (λ (l : List ℕ). ShowsEach (bare found.image found.script.list c.args.run.frames) (aspect_view c.args.aspect) l
+    (subst (λ (l : List ℕ). ShowsEach (watch_bare found.image found.script.list c.args.run.frames (aspect_view c.args.aspect)) l
     shown.text.items shown.end) c.as_slice.ensures.value c.in-Ok-look_through.ensures.shows) c.print_shown.ensures

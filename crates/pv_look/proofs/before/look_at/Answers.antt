@@ -16,6 +16,6 @@ pub returns-clause-look : goal.returns-clause-look
 returns-clause-look c =
     let found = c.args.found.now in
     let started = c.in-Ok.ensures.started in
-    seen_stop found.image found.script.list _ c.args.frames c.args.bound c.args.steps.now (state_of (λ (b : Buffer). b) c.in-Ok.machine)
-    _ c.step.result c.in-Stopped.stop
+    seen_stop found.image found.script.list _ c.args.frames (aspect_view c.args.aspect) c.args.bound c.args.steps.now
+    (state_of (λ (b : Buffer). b) c.in-Ok.machine) _ c.step.result c.in-Stopped.stop
     started.1 (started.4 found.script.list) c.step.ensures (rw c.in-Stopped.is at c.in-Ok-add_moments.ensures found.image)
