@@ -69,31 +69,21 @@ permitted_by user op.PortIn imm e = absurd (both_ways false refl e)
 permitted_by user op.PortOut imm e = absurd (both_ways false refl e)
 permitted_by user o imm e = refl
 
--- at level 0 no sensitive one
-plain_by : (o : Op) → is_native false o ≡ true → is_plain o ≡ true
-plain_by op.Int e = absurd (both_ways false refl e)
-plain_by op.Int3 e = absurd (both_ways false refl e)
-plain_by op.PushFlags e = absurd (both_ways false refl e)
-plain_by op.PopFlags e = absurd (both_ways false refl e)
-plain_by op.ReadSeg e = absurd (both_ways false refl e)
-plain_by op.PushSeg e = absurd (both_ways false refl e)
-plain_by op.Return e = absurd (both_ways false refl e)
-plain_by op.JumpTo e = absurd (both_ways false refl e)
-plain_by op.CallTo e = absurd (both_ways false refl e)
-plain_by o e = e
+-- at level 0 no sensitive one, at level 3 some of them
+native_is : (user : Bool) (o : Op) → is_native user o ≡ true → (is_plain o ≡ true) ⊎ ((user ≡ true) × (is_plain o ≡ false) × IsUserSite o)
+native_is user op.Int e = absurd (both_ways false refl e)
+native_is user op.Int3 e = absurd (both_ways false refl e)
+native_is user op.PushFlags e = inr (e, refl, tt)
+native_is user op.PopFlags e = inr (e, refl, tt)
+native_is user op.ReadSeg e = inr (e, refl, tt)
+native_is user op.PushSeg e = inr (e, refl, tt)
+native_is user op.Return e = inr (e, refl, tt)
+native_is user op.JumpTo e = inr (e, refl, tt)
+native_is user op.CallTo e = inr (e, refl, tt)
+native_is user o e = inl e
 
--- at level 3 some of the sensitive ones too
-plain_or_site : (o : Op) → is_native true o ≡ true → (is_plain o ≡ true) ⊎ ((is_plain o ≡ false) × IsUserSite o)
-plain_or_site op.Int e = absurd (both_ways false refl e)
-plain_or_site op.Int3 e = absurd (both_ways false refl e)
-plain_or_site op.PushFlags e = inr (refl, tt)
-plain_or_site op.PopFlags e = inr (refl, tt)
-plain_or_site op.ReadSeg e = inr (refl, tt)
-plain_or_site op.PushSeg e = inr (refl, tt)
-plain_or_site op.Return e = inr (refl, tt)
-plain_or_site op.JumpTo e = inr (refl, tt)
-plain_or_site op.CallTo e = inr (refl, tt)
-plain_or_site o e = inl e
+plain_by : (o : Op) → is_native false o ≡ true → is_plain o ≡ true
+plain_by o e = elim (native_is false o e) [ inl plain ↦ plain | inr q ↦ absurd (both_ways false refl q.0) ]
 
 -- ---- a user's processor
 
@@ -206,15 +196,10 @@ site_divides insn len cpu s e site user spelled =
 native_divides : (insn : Insn) (len : ℕ) (cpu : Cpu) (s : Space) → IsAble cpu → is_native (cpu.cpl == 3) insn.op ≡ true
     → ((found : List ℕ) × Spells found insn)
     → instructed insn len cpu s ≡ on_value (both_reached cpu (ranges_of insn cpu.regs) s) (λ _. done_in insn len cpu)
-native_divides insn len cpu s able native spelled = by_level (cpu.cpl == 3) refl
-  where
-    by_level : (user : Bool) → (cpu.cpl == 3) ≡ user → instructed insn len cpu s ≡ on_value (both_reached cpu (ranges_of insn cpu.regs) s)
-        (λ _. done_in insn len cpu)
-    by_level false e = plain_divides insn len cpu s (plain_by insn.op (ap (λ (u : Bool). is_native u insn.op) (sym e) ∙ native))
-    by_level true e = elim (plain_or_site insn.op (ap (λ (u : Bool). is_native u insn.op) (sym e) ∙ native)) [
-      | inl plain ↦ plain_divides insn len cpu s plain
-      | inr q ↦ site_divides insn len cpu s q.0 q.1 (user_cpu cpu able e) spelled
-    ]
+native_divides insn len cpu s able native spelled = elim (native_is (cpu.cpl == 3) insn.op native) [
+  | inl plain ↦ plain_divides insn len cpu s plain
+  | inr q ↦ site_divides insn len cpu s q.1 q.2 (user_cpu cpu able q.0) spelled
+]
 
 left_refused : (cpu : Cpu) (o : exec.Outcome) (s : Space) (x : Refusal × Space) → left_undone o s ≡ Err x → user_finished cpu o s ≡ Err x
 left_refused cpu (outcomes.Done regs stores) s x e = absurd cc
